@@ -1,0 +1,9 @@
+-- The text so far, and the fields that are left.
+use Rattle.std.proofs.Common.{◌≡◌, ◌++◌, drop, map}
+use Rattle.nxt_model.specs.LineText.{fields_then}
+use Rattle.nxt_model.specs.Means.Text.{number_text}
+use Rattle.nxt_model.proofs.text.numbers_then.Given as goal
+
+abbrev pub invariant-loop-number : goal.invariant-loop-number
+invariant-loop-number l =
+    l.text ++ fields_then (map number_text (drop l.number-index l.numbers)) l.last ≡ l.name ++ fields_then (map number_text l.numbers) l.last

@@ -1,0 +1,147 @@
+-- The answer that is due to a command, and what a call does of it.
+use Rattle.std.specs.Prelude.{◌≡◌, ◌≤◌, codes, decimal, ℕ, List, [], ◌∷◌, length, map, nat_lt, Bool, true, false, MatchBool, if◌then◌else◌, Option, Some, None, IfSome}
+use Rattle.std.specs.Io.KnownBytes.{Appends}
+use Rattle.nxt_edge.specs.Edge.{AppendsFront, Rose}
+use Rattle.nxt_model.specs.Image.{Image, program_of}
+use Rattle.nxt_model.specs.Program.{start}
+use Rattle.nxt_model.specs.Report.{IsReport, setting}
+use Rattle.nxt_model.specs.LineText.{line_of}
+use Rattle.nxt_tool.specs.Words.{is_run}
+use Rattle.nxt_tool.specs.FirstFile.{image_at}
+use Rattle.nxt_tool.specs.Ends.{status_of}
+use Rattle.nxt_tool.specs.Plain.{held}
+use Rattle.nxt_tool.specs.Rows.{Given, given, at_first}
+use Rattle.nxt_tool.specs.Running.{report, plain_row}
+use Rattle.nxt_edge.specs.declared.all.ReadAllFault.{ReadAllFault}
+use Rattle.nxt_edge.specs.declared.all.ReadAllFault.TheVariants as read
+use Rattle.nxt_tool.specs.declared.writing.Fault.{Fault}
+use Rattle.nxt_tool.specs.declared.writing.Fault.TheVariants as write
+use Rattle.nxt_tool.specs.declared.status.Status.{Status}
+use Rattle.nxt_tool.specs.declared.status.Status.TheVariants as statuses
+
+-- a status, the text for the image and the text for the report
+pub record Answer : Type 0 where
+  pub status : Status
+  pub image : List ℕ
+  pub report : List ℕ
+
+abbrev pub answer : Status → List ℕ → List ℕ → Answer
+answer status image report = record { status = status; image = image; report = report }
+
+abbrev pub most_script_bytes : ℕ
+most_script_bytes = 16777216
+
+-- the report of a script's rows on an image
+abbrev pub RunOn : Image → List ℕ → Answer → Type 0
+RunOn image script a =
+    MatchBool (nat_lt most_script_bytes (length script)) (a ≡ answer statuses.TooLarge [] [])
+    ((text : List ℕ)
+    × IsReport (setting image 0) (map plain_row (given (at_first script)).0) (given (at_first script)).1 text
+    × (a ≡ answer (status_of (given (at_first script)).1) [] text))
+
+-- ended by neither a fault nor want of memory
+abbrev pub is_settled : Status → Bool
+is_settled statuses.Done = true
+is_settled statuses.Refused = true
+is_settled statuses.Words = true
+is_settled statuses.ReadFault = false
+is_settled statuses.WriteFault = false
+is_settled statuses.NoMemory = false
+is_settled statuses.ScriptRefused = true
+is_settled statuses.TooLarge = true
+
+-- with this status a call gave the answer whole, or after a fault or want of memory a front of its text
+abbrev pub Meets : Status → Answer → Option (List ℕ) → Option (List ℕ) → Type 0
+Meets statuses.Done d old new = (statuses.Done ≡ d.status) × Appends old new d.report
+Meets statuses.Refused d old new = (statuses.Refused ≡ d.status) × Appends old new d.report
+Meets statuses.Words d old new = (statuses.Words ≡ d.status) × Appends old new d.report
+Meets statuses.ScriptRefused d old new = (statuses.ScriptRefused ≡ d.status) × Appends old new d.report
+Meets statuses.TooLarge d old new = (statuses.TooLarge ≡ d.status) × Appends old new d.report
+Meets statuses.ReadFault d old new = AppendsFront old new d.report
+Meets statuses.WriteFault d old new = AppendsFront old new d.report
+Meets statuses.NoMemory d old new = AppendsFront old new d.report
+
+abbrev pub read_status : ReadAllFault → Status
+read_status read.Failed = statuses.ReadFault
+read_status read.TooLarge = statuses.TooLarge
+read_status read.NoMemory = statuses.NoMemory
+
+abbrev pub write_status : Fault → Status
+write_status write.Write = statuses.WriteFault
+write_status write.NoMemory = statuses.NoMemory
+
+-- the answer that the machine gives
+abbrev pub answer_given : Image → Given → Answer
+answer_given image g = answer (status_of g.1) [] (report (held image (start (program_of image))) g)
+
+-- the answer to a script
+abbrev pub answer_to : Image → List ℕ → Answer
+answer_to image script =
+    if nat_lt most_script_bytes (length script) then answer statuses.TooLarge [] [] else answer_given image (given (at_first script))
+
+-- ---- commands
+
+abbrev pub most_program_bytes : ℕ
+most_program_bytes = 262144
+
+-- a file that is refused, or an image, of which `go` says what is due
+abbrev pub OfFile : Option Image → (Image → Answer → Type 0) → Answer → Type 0
+OfFile None go a = a ≡ answer statuses.Refused [] (line_of (codes "refused") (decimal 0 ∷ []))
+OfFile (Some image) go a = go image a
+
+-- a program that is too large, or another, of which `go` says what is due
+abbrev pub Within : List ℕ → (List ℕ → Answer → Type 0) → Answer → Type 0
+Within program go a = MatchBool (nat_lt most_program_bytes (length program)) (a ≡ answer statuses.TooLarge [] []) (go program a)
+
+abbrev pub Due : List (List ℕ) → List ℕ → List ℕ → Answer → Type 0
+Due words program script a =
+    MatchBool (is_run words)
+    (Within program (λ bytes. OfFile (image_at bytes) (λ image. RunOn image script)) a)
+    (a ≡ answer statuses.Words [] [])
+
+-- ---- the answer that is given
+
+abbrev pub answer_image : Option Image → List ℕ → Answer
+answer_image None script = answer statuses.Refused [] (line_of (codes "refused") (decimal 0 ∷ []))
+answer_image (Some image) script = answer_to image script
+
+abbrev pub answer_run : List ℕ → List ℕ → Answer
+answer_run program script =
+    if nat_lt most_program_bytes (length program) then answer statuses.TooLarge [] [] else answer_image (image_at program) script
+
+abbrev pub answer_all : List (List ℕ) → List ℕ → List ℕ → Answer
+answer_all words program script = if is_run words then answer_run program script else answer statuses.Words [] []
+
+-- ---- what is used
+
+abbrev pub UsesProgram : List (List ℕ) → Type 0
+UsesProgram words = is_run words ≡ true
+
+-- a program that is neither too large nor refused, so that the script is read
+pub record ReadsScript (program : List ℕ) : Type 0 where
+  pub within : length program ≤ 262144
+  pub image : Image
+  pub accepted : image_at program ≡ Some image
+
+abbrev pub UsesScript : List (List ℕ) → List ℕ → Type 0
+UsesScript words program = UsesProgram words × ReadsScript program
+
+-- the program's bytes, where they are told, are those of a program behind which the script is read
+abbrev pub Accepts : Option (List ℕ) → Type 0
+Accepts program = IfSome program ReadsScript
+
+abbrev pub MayReadScript : List (List ℕ) → Option (List ℕ) → Type 0
+MayReadScript words program = UsesProgram words × Accepts program
+
+-- each sink got its text whole, or a front of it
+pub record Answers (s : Status) (d : Answer) (image image' report report' : Option (List ℕ)) : Type 0 where
+  pub report_text : Meets s d report report'
+  pub image_text : Meets s (record d { report = d.image }) image image'
+
+-- no fault came: each count that may have risen stayed
+abbrev pub IsQuiet : ℕ → ℕ → Type 0
+IsQuiet before now = Rose before now → ⊥
+
+-- it isn't one of the statuses that come before the script is read
+abbrev pub NotRefused : Status → Type 0
+NotRefused s = (s ≡ statuses.Refused → ⊥) × (s ≡ statuses.Words → ⊥)

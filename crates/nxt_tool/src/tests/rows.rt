@@ -1,0 +1,206 @@
+// Worked commands.
+
+use super::{
+    ENDLESS_JUMP, Ended, Failing, MOTOR, MOTOR_REPORT, NONE, RISING, RISING_REPORT, command,
+    run_words, words_of,
+};
+use crate::Status;
+use std::test::Fail;
+
+#[derive(Clone, Copy)]
+struct Row<'a> {
+    name: &'a str,
+    program: &'a [u8],
+    script: &'a [u8],
+    chunk: usize,
+    failing: Failing<'a>,
+    status: Status,
+    report: &'a [u8],
+}
+
+const WHOLE: usize = 4096;
+
+// The status `Done` here, with ample memory, shows that the tool doesn't always answer want of memory.
+#[test]
+fn worked_rows(rt: HostRuntime) -> Result<(), Fail> {
+    let alloc = rt.alloc();
+    let words = run_words(alloc)?;
+    let fails_at_0: &[u32] = &[0];
+    let fails_at_1: &[u32] = &[1];
+    for row in &[
+        Row {
+            name: "motor_image",
+            program: &MOTOR,
+            script: b"run,100",
+            chunk: WHOLE,
+            failing: NONE,
+            status: Status::Done,
+            report: MOTOR_REPORT,
+        },
+        Row {
+            name: "rising power",
+            program: &RISING,
+            script: b"run,9\ntick,50\nrun,9\n",
+            chunk: WHOLE,
+            failing: NONE,
+            status: Status::Done,
+            report: RISING_REPORT,
+        },
+        Row {
+            name: "endless_jump",
+            program: &ENDLESS_JUMP,
+            script: b"run,3\r\n\n",
+            chunk: WHOLE,
+            failing: NONE,
+            status: Status::Done,
+            report: b"end,1\n",
+        },
+        Row {
+            name: "bad_third_row",
+            program: &MOTOR,
+            script: b"run,100\ntick,5\nfoo,1\n",
+            chunk: WHOLE,
+            failing: NONE,
+            status: Status::ScriptRefused,
+            report: b"motor,0,0,75,0,0,0,0\nstop,finished\nscript,3\n",
+        },
+        Row {
+            name: "sink_fails",
+            program: &MOTOR,
+            script: b"run,100",
+            chunk: 8,
+            failing: Failing {
+                report: fails_at_1,
+                ..NONE
+            },
+            status: Status::WriteFault,
+            report: b"motor,0,",
+        },
+        Row {
+            name: "script_source_fails",
+            program: &MOTOR,
+            script: b"run,100",
+            chunk: WHOLE,
+            failing: Failing {
+                script: fails_at_0,
+                ..NONE
+            },
+            status: Status::ReadFault,
+            report: b"",
+        },
+        Row {
+            name: "a cut image",
+            program: &MOTOR[..77],
+            script: b"run,100",
+            chunk: WHOLE,
+            failing: NONE,
+            status: Status::Refused,
+            report: b"refused,0\n",
+        },
+        Row {
+            name: "the last row in range",
+            program: &ENDLESS_JUMP,
+            script: b"run,1000000\ntick,0001000000\nrun,0\n",
+            chunk: WHOLE,
+            failing: NONE,
+            status: Status::Done,
+            report: b"end,3\n",
+        },
+        Row {
+            name: "one bytecode more than a row may run",
+            program: &ENDLESS_JUMP,
+            script: b"run,1000001\n",
+            chunk: WHOLE,
+            failing: NONE,
+            status: Status::ScriptRefused,
+            report: b"script,1\n",
+        },
+        Row {
+            name: "one bytecode more than a script may run",
+            program: &ENDLESS_JUMP,
+            script: b"run,1000000\nrun,1000000\nrun,1000000\nrun,1000000\nrun,1\n",
+            chunk: WHOLE,
+            failing: NONE,
+            status: Status::ScriptRefused,
+            report: b"script,5\n",
+        },
+        Row {
+            name: "an empty script",
+            program: &ENDLESS_JUMP,
+            script: b"\n\r\n",
+            chunk: 1,
+            failing: NONE,
+            status: Status::Done,
+            report: b"end,0\n",
+        },
+    ] {
+        let name = row.name;
+        let ended = command(
+            alloc,
+            words.as_slice(),
+            row.program,
+            row.script,
+            row.chunk,
+            row.failing,
+        )?;
+        assert_eq!(rt; ended.status, row.status, "{name}");
+        assert_eq!(rt; ended.report.as_slice(), row.report, "{name}");
+        assert!(rt; ended.image.is_empty(), "{name}");
+    }
+    Ok(())
+}
+
+#[test]
+fn program_too_large(rt: HostRuntime) -> Result<(), Fail> {
+    let alloc = rt.alloc();
+    let words = run_words(alloc)?;
+    let nothing: &[u8] = b"";
+    let refused: &[u8] = b"refused,0\n";
+    for (size, status, report) in [
+        (262_145, Status::TooLarge, nothing),
+        (262_144, Status::Refused, refused),
+    ] {
+        let program = vec![in alloc; 0u8; size]?;
+        let ended = command(
+            alloc,
+            words.as_slice(),
+            program.as_slice(),
+            b"run,1",
+            WHOLE,
+            NONE,
+        )?;
+        assert_eq!(rt; ended.status, status);
+        assert_eq!(rt; ended.report.as_slice(), report);
+    }
+    Ok(())
+}
+
+// Every call would fail, so a read or a write would show in the status.
+#[test]
+fn words_of_no_form(rt: HostRuntime) -> Result<(), Fail> {
+    let alloc = rt.alloc();
+    let fails_at_0: &[u32] = &[0];
+    let failing = Failing {
+        program: fails_at_0,
+        script: fails_at_0,
+        image: fails_at_0,
+        report: fails_at_0,
+    };
+    let none: &[&[u8]] = &[];
+    let run: &[u8] = b"run";
+    let rxe: &[u8] = b"rxe";
+    let a: &[u8] = b"a";
+    for texts in [
+        none,
+        &[run, rxe, a],
+        &[run, rxe, a, a, a],
+        &[b"RUN", rxe, a, a],
+        &[run, b"nxc", a, a],
+    ] {
+        let words = words_of(alloc, texts)?;
+        let ended = command(alloc, words.as_slice(), &MOTOR, b"run,1", WHOLE, failing)?;
+        assert_eq!(rt; ended.status, Status::Words);
+        assert!(rt; ended.report.is_empty());
+    }
+    Ok(())
+}

@@ -1,0 +1,181 @@
+ghost use Rattle.std.specs.Prelude.{◌≡◌, ◌⊎◌, ◌↔◌, ℕ, false, ◌≤◌, List, [], Option, Some, None};
+ghost use Rattle.std.specs.Io.KnownBytes.{Appends};
+ghost use Rattle.nxt_edge.specs.Edge.{Rose, AppendsFront};
+ghost use Rattle.nxt_tool.specs.Due.{Answer, Meets, read_status, write_status, answer_given, answer_to, answer_image, answer_run, answer_all, Due, UsesProgram, ReadsScript, UsesScript, Accepts, MayReadScript, Answers, IsQuiet, NotRefused};
+ghost use Rattle.nxt_tool.specs.Rows.{given, at_first};
+ghost use Rattle.nxt_tool.specs.Words.{is_run as run_form, texts_of};
+
+use crate::image::{ReadFault, read_image};
+use crate::machine::{Image, Machine};
+use crate::running::{put_last_line, run_script};
+use crate::status::Status;
+use crate::words::is_run;
+use crate::writing::Fault;
+use nxt_edge::{ReadAllFault, Sink, Source, read_all};
+use std::alloc::Global;
+
+const MOST_PROGRAM: usize = 262_144;
+
+const MOST_SCRIPT: usize = 16_777_216;
+
+fn of_read(fault: ReadAllFault) -> Status
+    ensures { result ≡ read_status fault }
+{
+    match fault {
+        ReadAllFault::Failed => Status::ReadFault,
+        ReadAllFault::TooLarge => Status::TooLarge,
+        ReadAllFault::NoMemory => Status::NoMemory,
+    }
+}
+
+fn of_write(fault: Fault) -> Status
+    ensures { result ≡ write_status fault }
+{
+    match fault {
+        Fault::Write => Status::WriteFault,
+        Fault::NoMemory => Status::NoMemory,
+    }
+}
+
+// Runs a script's bytes over an image.
+fn run_bytes<R: Sink>(alloc: Global, image: Image, bytes: &[u8], report: &mut R) -> Status
+    ensures told { Meets result (answer_given image (given (at_first bytes.now))) (R.written report.old) (R.written report.new) }
+    ensures write { result ≡ Status.WriteFault → Rose (R.faults report.old) (R.faults report.new) }
+    ensures report { R.faults report.old ≤ R.faults report.new }
+    ensures read { result ≡ Status.ReadFault → ⊥ }
+    ensures accepted { NotRefused result }
+{
+    let Ok(mut machine) = Machine::new(image) else {
+        return Status::NoMemory;
+    };
+    match run_script(alloc, &mut machine, bytes, report) {
+        Ok(status) => status,
+        Err(fault) => of_write(fault),
+    }
+}
+
+// Runs a script over an image, and reports.
+fn run_image<Q: Source, R: Sink>(
+    alloc: Global,
+    image: Image,
+    script: &mut Q,
+    report: &mut R,
+) -> Status
+    ensures told { (s : List ℕ) → Q.left script.old ≡ Some s → Meets result (answer_to image s) (R.written report.old) (R.written report.new) }
+    ensures read { result ≡ Status.ReadFault → Rose (Q.faults script.old) (Q.faults script.new) }
+    ensures write { result ≡ Status.WriteFault → Rose (R.faults report.old) (R.faults report.new) }
+    ensures script { Q.faults script.old ≤ Q.faults script.new }
+    ensures report { R.faults report.old ≤ R.faults report.new }
+    ensures accepted { NotRefused result }
+{
+    let bytes = match read_all(alloc, script, MOST_SCRIPT) {
+        Ok(bytes) => bytes,
+        Err(fault) => return of_read(fault),
+    };
+    run_bytes(alloc, image, bytes.as_slice(), report)
+}
+
+// Writes the line of a refused program.
+fn refuse<R: Sink>(alloc: Global, report: &mut R) -> Status
+    ensures told { Meets result (answer_image None []) (R.written report.old) (R.written report.new) }
+    ensures write { result ≡ Status.WriteFault → Rose (R.faults report.old) (R.faults report.new) }
+    ensures report { R.faults report.old ≤ R.faults report.new }
+    ensures only { (result ≡ Status.ReadFault → ⊥) × (result ≡ Status.Words → ⊥) }
+{
+    match put_last_line(alloc, report, b"refused", 0) {
+        Ok(()) => Status::Refused,
+        Err(fault) => of_write(fault),
+    }
+}
+
+// Runs a script over a program file.
+fn run<P: Source, Q: Source, R: Sink>(
+    alloc: Global,
+    program: &mut P,
+    script: &mut Q,
+    report: &mut R,
+) -> Status
+    ensures told { (b s : List ℕ) → P.left program.old ≡ Some b → (ReadsScript b → Q.left script.old ≡ Some s) → Meets result (answer_run b s) (R.written report.old) (R.written report.new) }
+    ensures read { result ≡ Status.ReadFault → Rose (P.faults program.old) (P.faults program.new) ⊎ (Accepts (P.left program.old) × Rose (Q.faults script.old) (Q.faults script.new)) }
+    ensures write { result ≡ Status.WriteFault → Rose (R.faults report.old) (R.faults report.new) }
+    ensures unread { (Accepts (P.left program.old) → ⊥) → script.new ≡ script.old }
+    ensures words { result ≡ Status.Words → ⊥ }
+    ensures later { (P.faults program.old ≤ P.faults program.new) × (Q.faults script.old ≤ Q.faults script.new) × (R.faults report.old ≤ R.faults report.new) }
+{
+    let bytes = match read_all(alloc, program, MOST_PROGRAM) {
+        Ok(bytes) => bytes,
+        Err(fault) => return of_read(fault),
+    };
+    match read_image(alloc, bytes.as_slice()) {
+        Ok(image) => run_image(alloc, image, script, report),
+        Err(ReadFault::NoMemory) => Status::NoMemory,
+        Err(ReadFault::Refused) => refuse(alloc, report),
+    }
+}
+
+fn answer<P: Source, Q: Source, I: Sink, R: Sink>(
+    alloc: Global,
+    words: &[Vec<u8>],
+    program: &mut P,
+    script: &mut Q,
+    image: &mut I,
+    report: &mut R,
+) -> Status
+    ensures told { (b s : List ℕ) → (UsesProgram (texts_of words.now) → P.left program.old ≡ Some b)
+        → (UsesScript (texts_of words.now) b → Q.left script.old ≡ Some s)
+        → Answers result (answer_all (texts_of words.now) b s) (I.written image.old) (I.written image.new) (R.written report.old) (R.written report.new) }
+    ensures words { (result ≡ Status.Words) ↔ (run_form (texts_of words.now) ≡ false) }
+    ensures read { result ≡ Status.ReadFault → Rose (P.faults program.old) (P.faults program.new) ⊎ (MayReadScript (texts_of words.now) (P.left program.old) × Rose (Q.faults script.old) (Q.faults script.new)) }
+    ensures write { result ≡ Status.WriteFault → Rose (R.faults report.old) (R.faults report.new) }
+    ensures no_form { run_form (texts_of words.now) ≡ false → (program.new ≡ program.old) × (report.new ≡ report.old) }
+    ensures script { (MayReadScript (texts_of words.now) (P.left program.old) → ⊥) → script.new ≡ script.old }
+    ensures image { image.new ≡ image.old }
+    ensures later { (P.faults program.old ≤ P.faults program.new) × (Q.faults script.old ≤ Q.faults script.new) × (R.faults report.old ≤ R.faults report.new) }
+{
+    if is_run(words) {
+        run(alloc, program, script, report)
+    } else {
+        Status::Words
+    }
+}
+
+/// Does what the words say, and answers how it ended. `words` are those of the command without the program's own name.
+///
+/// `run rxe FILE SCRIPT` runs the rows of the script on the image that the program holds, and writes the report.
+/// Other words have no form: nothing is read or written. `image` is for commands that write a file.
+pub fn nxt<P: Source, Q: Source, I: Sink, R: Sink>(
+    alloc: Global,
+    words: &[Vec<u8>],
+    program: &mut P,
+    script: &mut Q,
+    image: &mut I,
+    report: &mut R,
+) -> Status
+    // The headline. Let the sources that are used tell their bytes. With a status that is no fault, it and the texts
+    // appended are the due ones; after a fault or want of memory each text appended is a prefix of a due one.
+    ensures told { (b s : List ℕ) → (UsesProgram (texts_of words.now) → P.left program.old ≡ Some b)
+        → (UsesScript (texts_of words.now) b → Q.left script.old ≡ Some s)
+        → (a : Answer) × Due (texts_of words.now) b s a × Answers result a (I.written image.old) (I.written image.new) (R.written report.old) (R.written report.new) }
+
+    // Where no fault came, the due status is given, or there was no memory.
+    ensures complete { (b s : List ℕ) → (UsesProgram (texts_of words.now) → P.left program.old ≡ Some b)
+        → (UsesScript (texts_of words.now) b → Q.left script.old ≡ Some s)
+        → IsQuiet (P.faults program.old) (P.faults program.new) → IsQuiet (Q.faults script.old) (Q.faults script.new) → IsQuiet (R.faults report.old) (R.faults report.new)
+        → ((a : Answer) × Due (texts_of words.now) b s a × (result ≡ a.status)) ⊎ (result ≡ Status.NoMemory) }
+
+    // The words alone decide whether they have a form.
+    ensures words { (result ≡ Status.Words) ↔ (run_form (texts_of words.now) ≡ false) }
+
+    // A fault is told only where a used object failed in this call.
+    ensures read_fault { result ≡ Status.ReadFault → Rose (P.faults program.old) (P.faults program.new)
+        ⊎ (MayReadScript (texts_of words.now) (P.left program.old) × Rose (Q.faults script.old) (Q.faults script.new)) }
+    ensures write_fault { result ≡ Status.WriteFault → Rose (R.faults report.old) (R.faults report.new) }
+    ensures later { (P.faults program.old ≤ P.faults program.new) × (Q.faults script.old ≤ Q.faults script.new) × (R.faults report.old ≤ R.faults report.new) }
+
+    // What isn't used is left as it was.
+    ensures no_form { run_form (texts_of words.now) ≡ false → (program.new ≡ program.old) × (report.new ≡ report.old) }
+    ensures script { (MayReadScript (texts_of words.now) (P.left program.old) → ⊥) → script.new ≡ script.old }
+    ensures image { image.new ≡ image.old }
+{
+    answer(alloc, words, program, script, image, report)
+}

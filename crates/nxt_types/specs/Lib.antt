@@ -1,0 +1,10 @@
+pub mod Refusals
+pub mod Arithmetic
+pub mod Shapes
+pub mod Names
+pub mod Opcodes
+pub mod Statements
+pub mod Calls
+pub mod OperandRules
+pub mod Mnemonics
+pub mod ShapeCodes
