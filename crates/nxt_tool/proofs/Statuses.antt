@@ -1,16 +1,25 @@
 -- What the top call's statuses say of the due answer.
-use Rattle.std.proofs.Common.{◌≡◌, ℕ, ◌<◌, List, [], Option, Some, None, true, false, refl, sym, ap, subst, arith, length, Bool, inl, inr, ◌⊎◌, map}
+use Rattle.std.proofs.Common.{◌≡◌, ℕ, ◌<◌, List, [], Option, Some, None, true, false, refl, sym, ap, subst, arith, length, Bool, inl, inr, ◌⊎◌, map, ◌≤◌}
 use Rattle.std.specs.Prelude.{IfSome, nat_lt, if◌then◌else◌}
 use Rattle.std.specs.Io.KnownBytes.{Appends}
 use Rattle.std.proofs.lemmas.Bool.Decides.{nat_tests}
-use Rattle.nxt_edge.specs.Edge.{AppendsFront}
+use Rattle.nxt_edge.specs.Edge.{AppendsFront, AreBytes}
 use Rattle.nxt_edge.specs.declared.all.ReadAllFault.{ReadAllFault}
 use Rattle.nxt_edge.specs.declared.all.ReadAllFault.TheVariants.{Failed, TooLarge, NoMemory}
 use Rattle.nxt_edge.proofs.Known.{Appends-none}
 use Rattle.nxt_model.specs.Image.{Image}
-use Rattle.nxt_tool.specs.Due.{Answer, answer, Meets, RunOn, answer_to, answer_given, read_status, write_status, answer_image, answer_run, answer_all, OfFile, Within, Due}
-use Rattle.nxt_tool.specs.FirstFile.{image_at}
+use Rattle.nxt_tool.specs.Due.{Answer, answer, Meets, RunOn, answer_to, answer_given, read_status, write_status, refused_answer, OfFile, Run, Due, Answers}
 use Rattle.nxt_tool.specs.Words.{is_run}
+use Rattle.nxt_tool.specs.Accepted.{IsAcceptedAs, IsRefused}
+use Rattle.nxt_tool.specs.FirstFile.{image_in}
+use Rattle.nxt_tool.specs.declared.accept.Refusal.{Refusal}
+use Rattle.nxt_tool.specs.declared.accept.Refusal.TheVariants as refusals
+use Rattle.nxt_types.specs.Refusals.{IsRefusal}
+use Rattle.nxt_rxe.specs.declared.parts.Parts.{Parts}
+use Rattle.nxt_rxe.specs.declared.fault.RxeFault.{RxeFault}
+use Rattle.nxt_rxe.specs.Files.{IsFile}
+use Rattle.nxt_rxe.specs.FileRules.{Broken, rank}
+use Rattle.nxt_rxe.proofs.Decided.{file_or_refusal}
 use Rattle.nxt_tool.specs.declared.writing.Fault.{Fault}
 use Rattle.nxt_tool.specs.declared.writing.Fault.TheVariants.{Write, NoMemory as NoRoom}
 use Rattle.nxt_tool.specs.Rows.{given, at_first}
@@ -78,32 +87,90 @@ pub write_failed : (fault : Fault) (d : Answer) (w w' : Option (List ℕ)) → A
 write_failed Write d w w' h = h
 write_failed NoRoom d w w' h = h
 
-no_image_given : (long : Bool) (d : Answer) → d.image ≡ [] → (if long then answer status.TooLarge [] [] else d).image ≡ []
-no_image_given true d e = refl
-no_image_given false d e = e
+-- ---- programs
 
-no_image_at : (o : Option Image) (script : List ℕ) → (answer_image o script).image ≡ []
-no_image_at None script = refl
-no_image_at (Some image) script = no_image_given (nat_lt 16777216 (length script)) _ refl
+within_by : (long : Bool) (a : Answer) (go : Type 0) → long ≡ false → go → MatchBool long (a ≡ answer status.TooLarge [] []) go
+within_by true a go e is = absurd (let f : ⊥ = cc in f)
+within_by false a go e is = is
+
+short_program : (program : List ℕ) → length program ≤ 262144 → nat_lt 262144 (length program) ≡ false
+short_program program h = grind (arith, nat_tests)
+
+-- the line of a refused program is due
+pub refused_run : (program script : List ℕ) (r : Refusal) → length program ≤ 262144 → IsRefused program r → Run program script (refused_answer r)
+refused_run program script r few refused =
+    within_by (nat_lt 262144 (length program)) (refused_answer r) _ (short_program program few) (inl (r, refused, refl))
+
+-- what is due to a script on an accepted program is due
+pub accepted_run : (program script : List ℕ) (image : Image) (a : Answer) → length program ≤ 262144 → IsAcceptedAs program image → RunOn image script a → Run program script a
+accepted_run program script image a few accepted on =
+    within_by (nat_lt 262144 (length program)) a _ (short_program program few) (inr (image, accepted, on))
+
+by_image : (program script : List ℕ) (p : Parts) (o : Option Image) → IsFile program p → image_in p ≡ o → (a : Answer) × OfFile program (λ image. RunOn image script) a
+by_image program script p None file e = (refused_answer refusals.Unbuilt, inl (refusals.Unbuilt, (p, file, e), refl))
+by_image program script p (Some image) file e =
+    (answer_to image script, inr (image, record { parts = p; file = file; image_is = e }, run_on image script))
+
+by_file : (program script : List ℕ) → ((f : RxeFault) × IsRefusal (Broken program) rank f) ⊎ ((p : Parts) × IsFile program p) → (a : Answer) × OfFile program (λ image. RunOn image script) a
+by_file program script (inl found) = (refused_answer (refusals.Sections found.0), inl (refusals.Sections found.0, found.1, refl))
+by_file program script (inr found) = by_image program script found.0 (image_in found.0) found.1 refl
+
+by_length : (long : Bool) (program script : List ℕ) → AreBytes program → (a : Answer) × MatchBool long (a ≡ answer status.TooLarge [] []) (OfFile program (λ image. RunOn image script) a)
+by_length true program script bytes = (answer status.TooLarge [] [], refl)
+by_length false program script bytes = by_file program script (file_or_refusal program bytes)
+
+-- some answer is due to every program and script
+pub some_run : (program script : List ℕ) → AreBytes program → (a : Answer) × Run program script a
+some_run program script bytes = by_length (nat_lt 262144 (length program)) program script bytes
+
+too_large : (long : Bool) (go : Type 0) → long ≡ true → MatchBool long (answer status.TooLarge [] [] ≡ answer status.TooLarge [] []) go
+too_large true go e = refl
+too_large false go e = absurd (let f : ⊥ = cc in f)
+
+-- nothing is written where a program isn't read to its end
+pub unread_run : (fault : ReadAllFault) (program script : List ℕ) (w : Option (List ℕ)) → AreBytes program → (fault ≡ TooLarge → nat_lt 262144 (length program) ≡ true) →
+    (a : Answer) × Run program script a × Meets (read_status fault) a w w
+unread_run Failed program script w bytes long = let due = some_run program script bytes in (due.0, due.1, nothing_yet w due.0.report)
+unread_run NoMemory program script w bytes long = let due = some_run program script bytes in (due.0, due.1, nothing_yet w due.0.report)
+unread_run TooLarge program script w bytes long = (answer status.TooLarge [] [], too_large (nat_lt 262144 (length program)) _ (long refl), (refl, Appends-none w))
+
+pub no_memory_run : (program script : List ℕ) (w : Option (List ℕ)) → AreBytes program → (a : Answer) × Run program script a × Meets status.NoMemory a w w
+no_memory_run program script w bytes = let due = some_run program script bytes in (due.0, due.1, nothing_yet w due.0.report)
 
 -- no image text is due to a run
-pub no_image : (program script : List ℕ) → (answer_run program script).image ≡ []
-no_image program script = no_image_given (nat_lt 262144 (length program)) _ (no_image_at (image_at program) script)
+no_image_on : (long : Bool) (image : Image) (script : List ℕ) (a : Answer) → MatchBool long (a ≡ answer status.TooLarge [] [])
+    ((text : List ℕ) × IsReport (setting image 0) (map plain_row (given (at_first script)).0) (given (at_first script)).1 text × (a ≡ answer (status_of (given (at_first script)).1) [] text)) → a.image ≡ []
+no_image_on true image script a due = ap (λ (x : Answer). x.image) due
+no_image_on false image script a due = ap (λ (x : Answer). x.image) due.2
 
-of_file : (o : Option Image) (script : List ℕ) → OfFile o (λ image. RunOn image script) (answer_image o script)
-of_file None script = refl
-of_file (Some image) script = run_on image script
+no_image_of : (program script : List ℕ) (a : Answer) → OfFile program (λ image. RunOn image script) a → a.image ≡ []
+no_image_of program script a (inl refused) = ap (λ (x : Answer). x.image) refused.2
+no_image_of program script a (inr accepted) = no_image_on (nat_lt 16777216 (length script)) accepted.0 script a accepted.2
 
-within_by : (long : Bool) (program script : List ℕ) → MatchBool long ((if long then answer status.TooLarge [] [] else answer_image (image_at program) script) ≡ answer status.TooLarge [] [])
-    (OfFile (image_at program) (λ image. RunOn image script) (if long then answer status.TooLarge [] [] else answer_image (image_at program) script))
-within_by true program script = refl
-within_by false program script = of_file (image_at program) script
+no_image_by : (long : Bool) (program script : List ℕ) (a : Answer) → MatchBool long (a ≡ answer status.TooLarge [] []) (OfFile program (λ image. RunOn image script) a) → a.image ≡ []
+no_image_by true program script a due = ap (λ (x : Answer). x.image) due
+no_image_by false program script a due = no_image_of program script a due
 
-due_by : (run : Bool) (program script : List ℕ) → MatchBool run (Within program (λ bytes. OfFile (image_at bytes) (λ image. RunOn image script)) (if run then answer_run program script else answer status.Words [] []))
-    ((if run then answer_run program script else answer status.Words [] []) ≡ answer status.Words [] [])
-due_by true program script = within_by (nat_lt 262144 (length program)) program script
-due_by false program script = refl
+pub no_image : (program script : List ℕ) (a : Answer) → Run program script a → a.image ≡ []
+no_image program script a due = no_image_by (nat_lt 262144 (length program)) program script a due
 
--- what is given is due
-pub is_due : (words : List (List ℕ)) (program script : List ℕ) → Due words program script (answer_all words program script)
-is_due words program script = due_by (is_run words) program script
+-- ---- commands
+
+by_form : (run : Bool) (x y : Type 0) → run ≡ true → x → MatchBool run x y
+by_form true x y e h = h
+by_form false x y e h = absurd (let f : ⊥ = cc in f)
+
+by_no_form : (run : Bool) (x y : Type 0) → run ≡ false → y → MatchBool run x y
+by_no_form false x y e h = h
+by_no_form true x y e h = absurd (let f : ⊥ = cc in f)
+
+-- what is due to a run is due to its words
+pub due_to_run : (words : List (List ℕ)) (program script : List ℕ) (a : Answer) → is_run words ≡ true → Run program script a → Due words program script a
+due_to_run words program script a form due = by_form (is_run words) _ _ form due
+
+-- nothing is due to words of no form
+pub due_to_others : (words : List (List ℕ)) (program script : List ℕ) → is_run words ≡ false → Due words program script (answer status.Words [] [])
+due_to_others words program script form = by_no_form (is_run words) _ _ form refl
+
+pub no_words_answer : (image report : Option (List ℕ)) → Answers status.Words (answer status.Words [] []) image image report report
+no_words_answer image report = record { report_text = (refl, Appends-none report); image_text = (refl, Appends-none image) }

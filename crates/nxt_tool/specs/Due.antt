@@ -1,13 +1,13 @@
 -- The answer that is due to a command, and what a call does of it.
-use Rattle.std.specs.Prelude.{◌≡◌, ◌≤◌, codes, decimal, ℕ, List, [], ◌∷◌, length, map, nat_lt, Bool, true, false, MatchBool, if◌then◌else◌, Option, Some, None, IfSome}
+use Rattle.std.specs.Prelude.{◌≡◌, ◌⊎◌, ◌≤◌, ℕ, List, [], length, map, nat_lt, Bool, true, false, MatchBool, if◌then◌else◌, Option, IfSome}
 use Rattle.std.specs.Io.KnownBytes.{Appends}
 use Rattle.nxt_edge.specs.Edge.{AppendsFront, Rose}
 use Rattle.nxt_model.specs.Image.{Image, program_of}
 use Rattle.nxt_model.specs.Program.{start}
 use Rattle.nxt_model.specs.Report.{IsReport, setting}
-use Rattle.nxt_model.specs.LineText.{line_of}
 use Rattle.nxt_tool.specs.Words.{is_run}
-use Rattle.nxt_tool.specs.FirstFile.{image_at}
+use Rattle.nxt_tool.specs.Accepted.{IsAcceptedAs, IsRefused, refused_line, told}
+use Rattle.nxt_tool.specs.declared.accept.Refusal.{Refusal}
 use Rattle.nxt_tool.specs.Ends.{status_of}
 use Rattle.nxt_tool.specs.Plain.{held}
 use Rattle.nxt_tool.specs.Rows.{Given, given, at_first}
@@ -84,33 +84,25 @@ answer_to image script =
 abbrev pub most_program_bytes : ℕ
 most_program_bytes = 262144
 
--- a file that is refused, or an image, of which `go` says what is due
-abbrev pub OfFile : Option Image → (Image → Answer → Type 0) → Answer → Type 0
-OfFile None go a = a ≡ answer statuses.Refused [] (line_of (codes "refused") (decimal 0 ∷ []))
-OfFile (Some image) go a = go image a
+-- a refused file has its line
+abbrev pub refused_answer : Refusal → Answer
+refused_answer r = answer statuses.Refused [] (refused_line (told r))
+
+-- of an accepted file `go` says what is due
+abbrev pub OfFile : List ℕ → (Image → Answer → Type 0) → Answer → Type 0
+OfFile bytes go a =
+    ((r : Refusal) × IsRefused bytes r × (a ≡ refused_answer r)) ⊎ ((image : Image) × IsAcceptedAs bytes image × go image a)
 
 -- a program that is too large, or another, of which `go` says what is due
 abbrev pub Within : List ℕ → (List ℕ → Answer → Type 0) → Answer → Type 0
 Within program go a = MatchBool (nat_lt most_program_bytes (length program)) (a ≡ answer statuses.TooLarge [] []) (go program a)
 
+-- the answer to a program and a script
+abbrev pub Run : List ℕ → List ℕ → Answer → Type 0
+Run program script a = Within program (λ bytes. OfFile bytes (λ image. RunOn image script)) a
+
 abbrev pub Due : List (List ℕ) → List ℕ → List ℕ → Answer → Type 0
-Due words program script a =
-    MatchBool (is_run words)
-    (Within program (λ bytes. OfFile (image_at bytes) (λ image. RunOn image script)) a)
-    (a ≡ answer statuses.Words [] [])
-
--- ---- the answer that is given
-
-abbrev pub answer_image : Option Image → List ℕ → Answer
-answer_image None script = answer statuses.Refused [] (line_of (codes "refused") (decimal 0 ∷ []))
-answer_image (Some image) script = answer_to image script
-
-abbrev pub answer_run : List ℕ → List ℕ → Answer
-answer_run program script =
-    if nat_lt most_program_bytes (length program) then answer statuses.TooLarge [] [] else answer_image (image_at program) script
-
-abbrev pub answer_all : List (List ℕ) → List ℕ → List ℕ → Answer
-answer_all words program script = if is_run words then answer_run program script else answer statuses.Words [] []
+Due words program script a = MatchBool (is_run words) (Run program script a) (a ≡ answer statuses.Words [] [])
 
 -- ---- what is used
 
@@ -121,7 +113,7 @@ UsesProgram words = is_run words ≡ true
 pub record ReadsScript (program : List ℕ) : Type 0 where
   pub within : length program ≤ 262144
   pub image : Image
-  pub accepted : image_at program ≡ Some image
+  pub accepted : IsAcceptedAs program image
 
 abbrev pub UsesScript : List (List ℕ) → List ℕ → Type 0
 UsesScript words program = UsesProgram words × ReadsScript program

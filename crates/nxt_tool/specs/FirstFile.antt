@@ -1,6 +1,6 @@
--- The images of first files, from their bytes on. `None` is a file that is refused.
-use Rattle.std.specs.Prelude.{◌≡◌, ℕ, zero, suc, ◌+◌, ◌-◌, ◌*◌, ◌/◌, ◌%◌, ◌==◌, nat_lt, nat_le, nat_eq, Bool, true, false, ◌&&◌, ◌||◌, ℤ, List, [], ◌∷◌, ◌++◌, length, take, drop, Option, Some, None, if◌then◌else◌, codes, slice_index, slice_get}
-use Rattle.std.specs.List.{list_all, starts_with}
+-- The images of first files, from their parts on. `None` is a file that is refused.
+use Rattle.std.specs.Prelude.{◌≡◌, ℕ, zero, suc, ◌+◌, ◌-◌, ◌*◌, ◌/◌, ◌%◌, ◌==◌, nat_lt, nat_le, Bool, true, false, ◌&&◌, ◌||◌, ℤ, List, [], ◌∷◌, ◌++◌, length, take, drop, Option, Some, None, if◌then◌else◌, slice_index, slice_get}
+use Rattle.std.specs.List.{list_all}
 use Rattle.std.specs.declared.result.Result.{Result}
 use Rattle.std.specs.Prelude.{Ok, Err}
 use Rattle.nxt_types.specs.declared.kind.Kind.{Kind}
@@ -15,7 +15,8 @@ use Rattle.nxt_types.specs.Statements.{Statement, statement, comparisons}
 use Rattle.nxt_model.specs.Footprint.{round4}
 use Rattle.nxt_model.specs.Image.{Image, Code, landing}
 use Rattle.nxt_tool.specs.Plain.{image_of}
-use Rattle.nxt_tool.specs.declared.image.Header.{Header}
+use Rattle.nxt_types.specs.declared.lists.ClumpRec.{ClumpRec}
+use Rattle.nxt_rxe.specs.declared.parts.Parts.{Parts}
 use Rattle.nxt_tool.specs.declared.image.ReadFault.{ReadFault}
 use Rattle.nxt_tool.specs.declared.image.ReadFault.TheVariants as faults
 
@@ -40,57 +41,17 @@ abbrev pub Gives : {X Y : Type 0} → (X → Y) → Result X ReadFault → Optio
 Gives view (Ok x) read = read ≡ Some (view x)
 Gives view (Err e) read = Fails e read
 
-abbrev pub number_at : List ℕ → Option (ℕ × List ℕ)
-number_at [] = None
-number_at (low ∷ []) = None
-number_at (low ∷ high ∷ rest) = Some (low + 256 * high, rest)
-
 abbrev pub bytes_at : ℕ → List ℕ → Option (List ℕ × List ℕ)
 bytes_at n bytes = if nat_lt (length bytes) n then None else Some (take n bytes, drop n bytes)
 
--- so many items, one after another
-abbrev pub many : {X : Type 0} → (List ℕ → Option (X × List ℕ)) → ℕ → List ℕ → Option (List X × List ℕ)
-many item zero bytes = Some ([], bytes)
-many item (suc n) bytes = item bytes >>= λ x. many item n x.1 >>= λ xs. Some (x.0 ∷ xs.0, xs.1)
+-- ---- the clump
 
--- ---- the header
-
--- the format's name, a zero, and the version 5 with its high byte first
-abbrev pub front : List ℕ
-front = codes "MindstormsNXT" ++ 0 ∷ 0 ∷ 5 ∷ []
-
-unfoldable pub header_at : List ℕ → Option (Header × List ℕ)
-header_at bytes = do
-  name ← bytes_at 16 bytes
-  toc_count ← guard (starts_with nat_eq name.0 front) (number_at name.1)
-  initial ← number_at toc_count.1
-  static_size ← number_at initial.1
-  default_size ← number_at static_size.1
-  dyn_at ← number_at default_size.1
-  dyn_size ← number_at dyn_at.1
-  head ← number_at dyn_size.1
-  tail ← number_at head.1
-  dope_at ← number_at tail.1
-  clump_count ← number_at dope_at.1
-  word_count ← number_at clump_count.1
-  Some (record { toc_count = toc_count.0; initial = initial.0; static_size = static_size.0; default_size = default_size.0; dyn_size = dyn_size.0; clump_count = clump_count.0; word_count = word_count.0 }, word_count.1)
+-- one clump, which nothing lowers and which lowers none, starts at the first word
+abbrev pub is_only_clump : List ClumpRec → Bool
+is_only_clump (r ∷ []) = r.fire == 0 && r.dependents == 0 && r.start == 0
+is_only_clump _ = false
 
 -- ---- the table and the variables
-
-abbrev pub entry_at : List ℕ → Option (TocEntry × List ℕ)
-entry_at [] = None
-entry_at (code ∷ []) = None
-entry_at (code ∷ flags ∷ []) = None
-entry_at (code ∷ flags ∷ low ∷ []) = None
-entry_at (code ∷ flags ∷ low ∷ high ∷ rest) = Some (record { code = code; flags = flags; desc = low + 256 * high }, rest)
-
-abbrev pub entries_at : ℕ → List ℕ → Option (List TocEntry × List ℕ)
-entries_at n bytes = many entry_at n bytes
-
--- what was read before, in front of what is read now
-abbrev pub with_front : {X : Type 0} → List X → Option (List X × List ℕ) → Option (List X × List ℕ)
-with_front xs None = None
-with_front xs (Some r) = Some (xs ++ r.0, r.1)
 
 -- the kind that a code names
 abbrev pub kind_by : ℕ → Option Kind
@@ -134,9 +95,6 @@ with_variables kinds values None = None
 with_variables kinds values (Some r) = Some (kinds ++ r.0, values ++ r.1)
 
 -- ---- the code
-
-abbrev pub numbers_at : ℕ → List ℕ → Option (List ℕ × List ℕ)
-numbers_at n bytes = many number_at n bytes
 
 -- the first operations by their code
 abbrev pub first_op : ℕ → Option Op
@@ -245,18 +203,15 @@ is_sound_code n code = list_all (λ p. is_sound n code p) code && ends (slice_ge
 
 -- ---- the whole file
 
-abbrev pub is_first_header : Header → Bool
-is_first_header h =
-    h.dyn_size == 0 && nat_le h.static_size h.initial && h.clump_count == 1 && nat_le (round4 h.static_size + 12) 32768
+-- no dynamic defaults, room for the numbers and a table of one row, one clump that starts at the first word, and numbers
+-- that share no byte
+abbrev pub is_first_file : Parts → Bool
+is_first_file p =
+    p.header.dyn_size == 0 && nat_le (round4 p.header.static_size + 12) 32768 && is_only_clump p.clumps && all_apart p.toc
 
-unfoldable pub image_at : List ℕ → Option Image
-image_at bytes = do
-  h ← header_at bytes
-  es ← guard (is_first_header h.0) (entries_at h.0.toc_count h.1)
-  defaults ← bytes_at h.0.default_size es.1
-  pad ← bytes_at (h.0.default_size % 2) defaults.1
-  clump ← bytes_at 4 pad.1
-  words ← guard (starts_with nat_eq clump.0 (0 ∷ 0 ∷ 0 ∷ 0 ∷ [])) (numbers_at h.0.word_count clump.1)
-  variables ← guard (all_apart es.0) (variables_at h.0.static_size es.0 defaults.0)
-  code ← statements_at (length words.0) (length words.0) words.0
-  guard (is_sound_code (length variables.0) code) (Some (image_of es.0 variables.0 variables.1 h.0.static_size words.0))
+-- the image of a file whose parts are a first image's
+unfoldable pub image_in : Parts → Option Image
+image_in p = do
+  variables ← guard (is_first_file p) (variables_at p.header.static_size p.toc p.defaults)
+  code ← statements_at (length p.code) (length p.code) p.code
+  guard (is_sound_code (length variables.0) code) (Some (image_of p.toc variables.0 variables.1 p.header.static_size p.code))

@@ -1,16 +1,15 @@
 ghost use Rattle.std.specs.Prelude.{◌≡◌, ◌⊎◌, ◌↔◌, ℕ, false, ◌≤◌, List, [], Option, Some, None};
-ghost use Rattle.std.specs.Io.KnownBytes.{Appends};
-ghost use Rattle.nxt_edge.specs.Edge.{Rose, AppendsFront};
-ghost use Rattle.nxt_tool.specs.Due.{Answer, Meets, read_status, write_status, answer_given, answer_to, answer_image, answer_run, answer_all, Due, UsesProgram, ReadsScript, UsesScript, Accepts, MayReadScript, Answers, IsQuiet, NotRefused};
+ghost use Rattle.nxt_edge.specs.Edge.{Rose, AreBytes};
+ghost use Rattle.nxt_tool.specs.Due.{Answer, Meets, read_status, write_status, answer_given, answer_to, refused_answer, Run, Due, UsesProgram, ReadsScript, UsesScript, Accepts, MayReadScript, Answers, IsQuiet, NotRefused};
 ghost use Rattle.nxt_tool.specs.Rows.{given, at_first};
 ghost use Rattle.nxt_tool.specs.Words.{is_run as run_form, texts_of};
 
-use crate::image::{ReadFault, read_image};
+use crate::accept::{AcceptFault, Refusal, accept, refusal_line};
 use crate::machine::{Image, Machine};
-use crate::running::{put_last_line, run_script};
+use crate::running::run_script;
 use crate::status::Status;
 use crate::words::is_run;
-use crate::writing::Fault;
+use crate::writing::{Fault, put};
 use nxt_edge::{ReadAllFault, Sink, Source, read_all};
 use std::alloc::Global;
 
@@ -76,13 +75,16 @@ fn run_image<Q: Source, R: Sink>(
 }
 
 // Writes the line of a refused program.
-fn refuse<R: Sink>(alloc: Global, report: &mut R) -> Status
-    ensures told { Meets result (answer_image None []) (R.written report.old) (R.written report.new) }
+fn refuse<R: Sink>(alloc: Global, refusal: Refusal, report: &mut R) -> Status
+    ensures told { Meets result (refused_answer refusal) (R.written report.old) (R.written report.new) }
     ensures write { result ≡ Status.WriteFault → Rose (R.faults report.old) (R.faults report.new) }
     ensures report { R.faults report.old ≤ R.faults report.new }
     ensures only { (result ≡ Status.ReadFault → ⊥) × (result ≡ Status.Words → ⊥) }
 {
-    match put_last_line(alloc, report, b"refused", 0) {
+    let Ok(line) = refusal_line(alloc, refusal) else {
+        return Status::NoMemory;
+    };
+    match put(report, line.as_slice()) {
         Ok(()) => Status::Refused,
         Err(fault) => of_write(fault),
     }
@@ -95,7 +97,7 @@ fn run<P: Source, Q: Source, R: Sink>(
     script: &mut Q,
     report: &mut R,
 ) -> Status
-    ensures told { (b s : List ℕ) → P.left program.old ≡ Some b → (ReadsScript b → Q.left script.old ≡ Some s) → Meets result (answer_run b s) (R.written report.old) (R.written report.new) }
+    ensures told { (b s : List ℕ) → AreBytes b → P.left program.old ≡ Some b → (ReadsScript b → Q.left script.old ≡ Some s) → (a : Answer) × Run b s a × Meets result a (R.written report.old) (R.written report.new) }
     ensures read { result ≡ Status.ReadFault → Rose (P.faults program.old) (P.faults program.new) ⊎ (Accepts (P.left program.old) × Rose (Q.faults script.old) (Q.faults script.new)) }
     ensures write { result ≡ Status.WriteFault → Rose (R.faults report.old) (R.faults report.new) }
     ensures unread { (Accepts (P.left program.old) → ⊥) → script.new ≡ script.old }
@@ -106,10 +108,10 @@ fn run<P: Source, Q: Source, R: Sink>(
         Ok(bytes) => bytes,
         Err(fault) => return of_read(fault),
     };
-    match read_image(alloc, bytes.as_slice()) {
+    match accept(alloc, bytes.as_slice()) {
         Ok(image) => run_image(alloc, image, script, report),
-        Err(ReadFault::NoMemory) => Status::NoMemory,
-        Err(ReadFault::Refused) => refuse(alloc, report),
+        Err(AcceptFault::NoMemory) => Status::NoMemory,
+        Err(AcceptFault::Refused(refusal)) => refuse(alloc, refusal, report),
     }
 }
 
@@ -121,9 +123,9 @@ fn answer<P: Source, Q: Source, I: Sink, R: Sink>(
     image: &mut I,
     report: &mut R,
 ) -> Status
-    ensures told { (b s : List ℕ) → (UsesProgram (texts_of words.now) → P.left program.old ≡ Some b)
+    ensures told { (b s : List ℕ) → AreBytes b → (UsesProgram (texts_of words.now) → P.left program.old ≡ Some b)
         → (UsesScript (texts_of words.now) b → Q.left script.old ≡ Some s)
-        → Answers result (answer_all (texts_of words.now) b s) (I.written image.old) (I.written image.new) (R.written report.old) (R.written report.new) }
+        → (a : Answer) × Due (texts_of words.now) b s a × Answers result a (I.written image.old) (I.written image.new) (R.written report.old) (R.written report.new) }
     ensures words { (result ≡ Status.Words) ↔ (run_form (texts_of words.now) ≡ false) }
     ensures read { result ≡ Status.ReadFault → Rose (P.faults program.old) (P.faults program.new) ⊎ (MayReadScript (texts_of words.now) (P.left program.old) × Rose (Q.faults script.old) (Q.faults script.new)) }
     ensures write { result ≡ Status.WriteFault → Rose (R.faults report.old) (R.faults report.new) }
@@ -153,12 +155,12 @@ pub fn nxt<P: Source, Q: Source, I: Sink, R: Sink>(
 ) -> Status
     // The headline. Let the sources that are used tell their bytes. With a status that is no fault, it and the texts
     // appended are the due ones; after a fault or want of memory each text appended is a prefix of a due one.
-    ensures told { (b s : List ℕ) → (UsesProgram (texts_of words.now) → P.left program.old ≡ Some b)
+    ensures told { (b s : List ℕ) → AreBytes b → (UsesProgram (texts_of words.now) → P.left program.old ≡ Some b)
         → (UsesScript (texts_of words.now) b → Q.left script.old ≡ Some s)
         → (a : Answer) × Due (texts_of words.now) b s a × Answers result a (I.written image.old) (I.written image.new) (R.written report.old) (R.written report.new) }
 
     // Where no fault came, the due status is given, or there was no memory.
-    ensures complete { (b s : List ℕ) → (UsesProgram (texts_of words.now) → P.left program.old ≡ Some b)
+    ensures complete { (b s : List ℕ) → AreBytes b → (UsesProgram (texts_of words.now) → P.left program.old ≡ Some b)
         → (UsesScript (texts_of words.now) b → Q.left script.old ≡ Some s)
         → IsQuiet (P.faults program.old) (P.faults program.new) → IsQuiet (Q.faults script.old) (Q.faults script.new) → IsQuiet (R.faults report.old) (R.faults report.new)
         → ((a : Answer) × Due (texts_of words.now) b s a × (result ≡ a.status)) ⊎ (result ≡ Status.NoMemory) }

@@ -3,6 +3,7 @@ pub mod Arithmetic
 pub mod Shapes
 pub mod Names
 pub mod Opcodes
+pub mod Arities
 pub mod Statements
 pub mod Calls
 pub mod OperandRules

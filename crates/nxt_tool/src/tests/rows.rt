@@ -5,6 +5,8 @@ use super::{
     run_words, words_of,
 };
 use crate::Status;
+use std::alloc::Global;
+use std::process::Abort;
 use std::test::Fail;
 
 #[derive(Clone, Copy)]
@@ -89,15 +91,6 @@ fn worked_rows(rt: HostRuntime) -> Result<(), Fail> {
             report: b"",
         },
         Row {
-            name: "a cut image",
-            program: &MOTOR[..77],
-            script: b"run,100",
-            chunk: WHOLE,
-            failing: NONE,
-            status: Status::Refused,
-            report: b"refused,0\n",
-        },
-        Row {
             name: "the last row in range",
             program: &ENDLESS_JUMP,
             script: b"run,1000000\ntick,0001000000\nrun,0\n",
@@ -155,7 +148,7 @@ fn program_too_large(rt: HostRuntime) -> Result<(), Fail> {
     let alloc = rt.alloc();
     let words = run_words(alloc)?;
     let nothing: &[u8] = b"";
-    let refused: &[u8] = b"refused,0\n";
+    let refused: &[u8] = b"refused,2,0\n";
     for (size, status, report) in [
         (262_145, Status::TooLarge, nothing),
         (262_144, Status::Refused, refused),
@@ -173,6 +166,46 @@ fn program_too_large(rt: HostRuntime) -> Result<(), Fail> {
         assert_eq!(rt; ended.report.as_slice(), report);
     }
     Ok(())
+}
+
+fn refused(rt: &impl Abort, alloc: Global, program: &[u8], line: &[u8]) -> Result<(), Fail> {
+    let words = run_words(alloc)?;
+    let ended = command(alloc, words.as_slice(), program, b"run,1", WHOLE, NONE)?;
+    assert_eq!(rt; ended.status, Status::Refused);
+    assert_eq!(rt; ended.report.as_slice(), line);
+    Ok(())
+}
+
+// The motor image cut to each length names the section that passes the end.
+#[test]
+fn cut_images(rt: HostRuntime) -> Result<(), Fail> {
+    let alloc = rt.alloc();
+    for bytes in 0..78 {
+        let short = format!(in alloc; "refused,1,{bytes}\n")?;
+        let line: &[u8] = match bytes {
+            0..=37 => short.as_bytes(),
+            38..=49 => b"refused,4,0\n",
+            50..=52 => b"refused,4,1\n",
+            53..=57 => b"refused,4,3\n",
+            _ => b"refused,4,5\n",
+        };
+        refused(&rt, alloc, &MOTOR[..bytes], line)?;
+    }
+    Ok(())
+}
+
+#[test]
+fn other_files(rt: HostRuntime) -> Result<(), Fail> {
+    let alloc = rt.alloc();
+    let mut header = b"MindstormsNXT\0\0\x05".to_vec(alloc)?;
+    header.extend_from_slice(&[0; 22])?;
+    refused(&rt, alloc, header.as_slice(), b"refused,0\n")?;
+    let mut version = b"MindstormsNXT\0\0\x06".to_vec(alloc)?;
+    version.extend_from_slice(&[0; 22])?;
+    refused(&rt, alloc, version.as_slice(), b"refused,3,6\n")?;
+    let mut format = b"MindstormsNXC\0\0\x05".to_vec(alloc)?;
+    format.extend_from_slice(&[0; 22])?;
+    refused(&rt, alloc, format.as_slice(), b"refused,2,12\n")
 }
 
 // Every call would fail, so a read or a write would show in the status.
