@@ -1,0 +1,14 @@
+pub mod Changes
+pub mod Dumping
+pub mod Freeing
+pub mod Growing
+pub mod Kept
+pub mod OfLength
+pub mod Places
+pub mod Placing
+pub mod Reshaping
+pub mod Resizing
+pub mod Starts
+pub mod Swapping
+pub mod Views
+pub mod Writing

@@ -1,0 +1,377 @@
+ghost use Rattle.std.specs.Prelude.{◌≡◌, ◌+◌, ◌*◌, ◌<◌, ◌≤◌, ℕ, length, slice_index, slice_set, OnOk, OnErr, IfErr, IfOk, IsTrue, ◌%◌, None};
+ghost use Rattle.nxt_model.specs.Footprint.{round4 as rounded, pool_size};
+ghost use Rattle.nxt_heap.specs.Lists.{IsAlive, list_at, stride_at, bytes_at, table_of, footprint, Passes, IsFree, with_free, with_free_row, empty_list, zero_heap, with_list, with_length, with_byte};
+ghost use Rattle.nxt_heap.specs.Pool.{Shows, state_of, IsHeap};
+
+use crate::blocks::{
+    POOL_BYTES, block_bytes, free_block, lay_out, new_list, resize_block, round4, row_bytes,
+    write_byte,
+};
+use crate::passed::PoolPassed;
+use nxt_rows::{ROW_BYTES, get};
+use nxt_types::{Bytes, NoMemory};
+use std::alloc::Global;
+use std::marker::Model;
+
+/// Static bytes and byte lists by row, in a pool of 32,768 bytes.
+///
+/// The static bytes stand first, then the dope table, then a block for each list, in the order of the rows and without
+/// gaps. A block is a multiple of 4 bytes long.
+#[derive(Drop)]
+pub struct Heap {
+    pool: Vec<u8>,
+    static_size: u32,
+    end: u32,
+}
+
+impl Model for Heap {
+    ghost use Rattle.nxt_heap.specs.Lists.{Lists};
+    ghost use Rattle.nxt_heap.specs.Pool.{state_of, IsHeap};
+
+    ghost Value = { Lists };
+
+    ghost view = { λ a. state_of a.static_size a.pool.items };
+
+    ghost invariant = { λ a. IsHeap a.static_size a.end a.pool.items };
+}
+
+impl Heap {
+    /// A heap of zeros, with a table of row 0 and free rows. All the memory that later calls need is taken here.
+    pub fn new(alloc: Global, static_size: u32, rows: u16) -> Result<Heap, NoMemory>
+        requires rows { 1 ≤ rows }
+        requires fits { rounded static_size + rounded (10 * rows) ≤ pool_size }
+        ensures { IfOk result (λ heap. heap ≡ zero_heap static_size rows) }
+    {
+        let mut pool = vec![in alloc; 0; POOL_BYTES]?;
+        let end = start(&mut pool, static_size, rows);
+        Ok(Heap {
+            pool,
+            static_size,
+            end,
+        })
+    }
+
+    /// Frees every list, makes all static bytes 0, and sets the table to row 0 and free rows.
+    pub fn restart(&mut self, rows: u16)
+        requires rows { 1 ≤ rows }
+        requires fits { rounded (length self.old.static_bytes) + rounded (10 * rows) ≤ pool_size }
+        ensures { self.new ≡ zero_heap (length self.old.static_bytes) rows }
+    {
+        self.end = start(&mut self.pool, self.static_size, rows);
+    }
+
+    /// The static byte at this place.
+    pub fn byte(&self, at: u32) -> u8
+        requires { at < length self.now.static_bytes }
+        ensures { result ≡ slice_index self.now.static_bytes at }
+    {
+        self.pool[at as usize]
+    }
+
+    /// Stores a static byte.
+    pub fn set_byte(&mut self, at: u32, b: u8)
+        requires { at < length self.old.static_bytes }
+        ensures { self.new ≡ record self.old { static_bytes = slice_set self.old.static_bytes at b } }
+    {
+        self.pool[at as usize] = b;
+    }
+
+    /// Takes a free row for an empty list of elements that are `stride` bytes apart, or adds a row to the table, and gives
+    /// the row's number.
+    pub fn new_array(&mut self, stride: u16) -> Result<u16, PoolPassed>
+        requires { 1 ≤ stride }
+        ensures free { IfOk result (λ row. IsFree (with_free self.old.by_row) row) }
+        ensures ok { IfOk result (λ row. self.new ≡ with_list (with_free_row self.old) row (empty_list stride)) }
+        ensures fits { OnOk result (footprint (with_free_row self.old) ≤ pool_size) }
+        ensures passed { IfErr result (λ e. Passes (with_free_row self.old) e.0) }
+        ensures err { OnErr result (self.new ≡ self.old) }
+    {
+        match new_list(
+            &mut self.pool,
+            table_above(self.static_size),
+            stride,
+            self.end,
+        ) {
+            Ok(taken) => {
+                self.end = taken.end;
+                Ok(taken.row)
+            }
+            Err(passed) => Err(passed),
+        }
+    }
+
+    /// Gives a list another number of bytes, a multiple of its stride. The front of the list stays, and new bytes are 0.
+    pub fn resize(&mut self, row: u16, bytes: u32) -> Result<(), PoolPassed>
+        requires alive { IsAlive self.old row }
+        requires whole { bytes % stride_at self.old row ≡ 0 }
+        ensures ok { OnOk result (self.new ≡ with_length self.old row bytes) }
+        ensures fits { OnOk result (footprint (with_length self.old row bytes) ≤ pool_size) }
+        ensures passed { IfErr result (λ e. Passes (with_length self.old row bytes) e.0) }
+        ensures err { OnErr result (self.new ≡ self.old) }
+    {
+        let table = table_above(self.static_size);
+        let had = block_bytes(get(&self.pool, table, row));
+        let footprint = (self.end - had) as u64 + round4(bytes as u64);
+        if footprint > POOL_BYTES as u64 {
+            return Err(PoolPassed(footprint));
+        }
+        resize_block(&mut self.pool, table, row, bytes, self.end);
+        self.end = footprint as u32;
+        Ok(())
+    }
+
+    /// Frees a list and its row.
+    pub fn free_array(&mut self, row: u16)
+        requires { IsAlive self.old row }
+        ensures { self.new ≡ with_list self.old row None }
+    {
+        let table = table_above(self.static_size);
+        let had = block_bytes(get(&self.pool, table, row));
+        free_block(&mut self.pool, table, row, self.end);
+        self.end -= had;
+    }
+
+    /// The bytes of a list.
+    pub fn bytes_of(&self, row: u16) -> &[u8]
+        requires { IsAlive self.now row }
+        ensures { result.now ≡ bytes_at self.now row }
+    {
+        row_bytes(&self.pool, table_above(self.static_size), row)
+    }
+
+    /// Stores a byte of a list.
+    pub fn write(&mut self, row: u16, at: u32, b: u8)
+        requires alive { IsAlive self.old row }
+        requires at { at < length (bytes_at self.old row) }
+        ensures { self.new ≡ with_byte self.old row at b }
+    {
+        write_byte(&mut self.pool, table_above(self.static_size), row, at, b);
+    }
+
+    /// Moves up to `k` blocks down to the end of the block before them, and gives the number of blocks that moved. No block
+    /// has a gap below it.
+    pub fn compact(&mut self, _k: u16) -> u16
+        ensures settled { result ≡ 0 }
+        ensures same { self.new ≡ self.old }
+    {
+        0
+    }
+
+    /// How many blocks have a gap somewhere below them.
+    pub fn unsettled(&self) -> u16
+        ensures { result ≡ 0 }
+    {
+        0
+    }
+
+    /// The pool from its first byte to the end of the last block. Its rows read as the lists.
+    pub fn dump(&self, alloc: Global) -> Result<Bytes, NoMemory>
+        ensures shows { IfOk result (λ bytes. Shows bytes (table_of self.now) self.now) }
+        ensures length { IfOk result (λ bytes. length bytes ≡ footprint self.now) }
+    {
+        let mut bytes = Bytes::new(alloc);
+        bytes.append(&self.pool[..self.end as usize])?;
+        Ok(bytes)
+    }
+
+    /// How many bytes of the pool are taken, each list's rounded up to a multiple of 4.
+    pub fn footprint(&self) -> u32
+        ensures whole { result ≡ footprint self.now }
+        ensures fits { result ≤ pool_size }
+    {
+        self.end
+    }
+
+    /// How many rows the table has.
+    pub fn row_count(&self) -> u16
+        ensures rows { result ≡ length self.now.by_row }
+        ensures some { 1 ≤ result }
+        ensures first { list_at self.now 0 ≡ None }
+    {
+        get(&self.pool, table_above(self.static_size), 0).count
+    }
+
+    /// Where the table stands in the pool, in bytes.
+    pub fn table_place(&self) -> u32
+        ensures { result ≡ table_of self.now }
+    {
+        table_above(self.static_size)
+    }
+}
+
+/// Where the table stands above so many static bytes.
+fn table_above(static_size: u32) -> u32
+    requires { rounded static_size ≤ pool_size }
+    ensures { result ≡ rounded static_size }
+{
+    round4(static_size as u64) as u32
+}
+
+/// Lays out the pool, and gives the end of the table.
+fn start(pool: &mut [u8], static_size: u32, rows: u16) -> u32
+    requires size { length pool.old ≡ pool_size }
+    requires rows { 1 ≤ rows }
+    requires fits { rounded static_size + rounded (10 * rows) ≤ pool_size }
+    ensures heap { IsHeap static_size result pool.new }
+    ensures state { state_of static_size pool.new ≡ zero_heap static_size rows }
+{
+    let table = table_above(static_size);
+    lay_out(pool, table, rows);
+    table + round4(ROW_BYTES as u64 * rows as u64) as u32
+}
+
+#[cfg(test)]
+mod tests {
+    use super::*;
+    use std::process::Abort;
+    use std::test::Fail;
+
+    /// Whether a row has a list.
+    fn is_alive(heap: &Heap, row: u16) -> bool
+        ensures { IsTrue result → IsAlive heap.now row }
+    {
+        let table = table_above(heap.static_size);
+        if row == 0 {
+            return false;
+        }
+        if row >= get(&heap.pool, table, 0).count {
+            return false;
+        }
+        get(&heap.pool, table, row).stride != 0
+    }
+
+    /// How far a list's elements are apart.
+    fn stride(heap: &Heap, row: u16) -> u16
+        requires { IsAlive heap.now row }
+        ensures { result ≡ stride_at heap.now row }
+    {
+        get(&heap.pool, table_above(heap.static_size), row).stride
+    }
+
+    fn resize(rt: &impl Abort, heap: &mut Heap, row: u16, bytes: u32) -> Result<(), PoolPassed> {
+        let living = is_alive(heap, row);
+        assert!(rt; living);
+        let stride = stride(heap, row);
+        assert!(rt; stride > 0);
+        assert!(rt; bytes % stride as u32 == 0);
+        heap.resize(row, bytes)
+    }
+
+    fn free(rt: &impl Abort, heap: &mut Heap, row: u16) {
+        let living = is_alive(heap, row);
+        assert!(rt; living);
+        heap.free_array(row);
+    }
+
+    // A byte that differs from row to row and from place to place.
+    fn mark(row: u16, at: usize) -> u8 {
+        (at % 61 + row as usize % 3 * 64 + 1) as u8
+    }
+
+    /// The list has that many bytes: its marks first, and then zeros.
+    fn expect_list(rt: &impl Abort, heap: &Heap, row: u16, marks: usize, bytes: usize) {
+        let living = is_alive(heap, row);
+        assert!(rt; living);
+        let found = heap.bytes_of(row);
+        assert_eq!(rt; found.len(), bytes);
+        for (at, &byte) in found.iter().enumerate() {
+            assert_eq!(rt;
+                byte,
+                if at < marks { mark(row, at) } else { 0 },
+                "row {row} at {at}"
+            );
+        }
+    }
+
+    fn write_marks(rt: &impl Abort, heap: &mut Heap, row: u16, bytes: u32) {
+        for at in 0..bytes {
+            let living = is_alive(heap, row);
+            assert!(rt; living);
+            let len = heap.bytes_of(row).len();
+            assert!(rt; (at as usize) < len);
+            heap.write(row, at, mark(row, at as usize));
+        }
+    }
+
+    #[test]
+    fn heap_by_hand(rt: HostRuntime) -> Result<(), Fail> {
+        let mut heap = Heap::new(rt.alloc(), 8, 1)?;
+        assert_eq!(rt; heap.footprint(), 20);
+        assert_eq!(rt; heap.new_array(1), Ok(1));
+        assert_eq!(rt; heap.footprint(), 28);
+        assert_eq!(rt; resize(&rt, &mut heap, 1, 5), Ok(()));
+        assert_eq!(rt; heap.footprint(), 36);
+        assert_eq!(rt; resize(&rt, &mut heap, 1, 32741), Err(PoolPassed(32772)));
+        assert_eq!(rt; heap.footprint(), 36);
+        assert_eq!(rt; resize(&rt, &mut heap, 1, 32740), Ok(()));
+        assert_eq!(rt; heap.footprint(), 32768);
+        assert_eq!(rt; heap.new_array(1), Err(PoolPassed(32780)));
+        assert_eq!(rt; heap.dump(rt.alloc())?.len(), 32768);
+        Ok(())
+    }
+
+    #[test]
+    fn every_block_moves_with_its_bytes(rt: HostRuntime) -> Result<(), Fail> {
+        let mut heap = Heap::new(rt.alloc(), 6, 3)?;
+        let mut lengths = [0; 7];
+        for _ in 0..4 {
+            assert_eq!(rt; heap.new_array(2).is_ok(), true);
+        }
+        let steps = [
+            (1, 8),
+            (2, 6),
+            (3, 14),
+            (4, 2),
+            (1, 20),
+            (3, 4),
+            (2, 0),
+            (1, 2),
+            (4, 30),
+            (2, 10),
+        ];
+        for (row, bytes) in steps {
+            assert!(rt; row < 7);
+            let had = lengths[row];
+            assert_eq!(rt; resize(&rt, &mut heap, row as u16, bytes), Ok(()));
+            expect_list(
+                &rt,
+                &heap,
+                row as u16,
+                had.min(bytes) as usize,
+                bytes as usize,
+            );
+            write_marks(&rt, &mut heap, row as u16, bytes);
+            lengths[row] = bytes;
+            for other in 1..5 {
+                let bytes = lengths[other] as usize;
+                expect_list(&rt, &heap, other as u16, bytes, bytes);
+            }
+        }
+        free(&rt, &mut heap, 2);
+        assert_eq!(rt; heap.new_array(3), Ok(2));
+        assert_eq!(rt; heap.new_array(3), Ok(5));
+        expect_list(&rt, &heap, 1, 2, 2);
+        expect_list(&rt, &heap, 2, 0, 0);
+        expect_list(&rt, &heap, 3, 4, 4);
+        expect_list(&rt, &heap, 4, 30, 30);
+        Ok(())
+    }
+
+    #[test]
+    fn a_restart_leaves_zeros_and_free_rows(rt: HostRuntime) -> Result<(), Fail> {
+        let mut heap = Heap::new(rt.alloc(), 6, 3)?;
+        heap.set_byte(5, 7);
+        assert_eq!(rt; heap.byte(5), 7);
+        assert_eq!(rt; heap.new_array(1), Ok(1));
+        heap.restart(2);
+        assert_eq!(rt; heap.byte(5), 0);
+        assert_eq!(rt; heap.row_count(), 2);
+        assert_eq!(rt; heap.table_place(), 8);
+        assert_eq!(rt; heap.footprint(), 28);
+        assert_eq!(rt; heap.compact(1), 0);
+        assert_eq!(rt; heap.unsettled(), 0);
+        assert_eq!(rt; heap.new_array(1), Ok(1));
+        assert_eq!(rt; heap.new_array(1), Ok(2));
+        Ok(())
+    }
+}
