@@ -57,21 +57,35 @@ fn bytes_line(alloc: Global, name: &[u8], numbers: &[i64], bytes: &[u8]) -> Resu
     numbers_then(alloc, name, numbers, last.as_slice())
 }
 
+// A comma, a count, and a line feed.
+fn count_field(alloc: Global, count: u64) -> Result<Bytes, NoMemory>
+    ensures { IfOk result (λ text. text ≡ 44 ∷ decimal count ++ 10 ∷ []) }
+{
+    let digits = count.to_string(alloc)?;
+    let mut text = Bytes::new(alloc);
+    text.append(b",")?;
+    text.append(digits.as_bytes())?;
+    text.append(b"\n")?;
+    Ok(text)
+}
+
+/// A line of numbers and, last, a count behind a name.
+pub fn count_line(
+    alloc: Global,
+    name: &[u8],
+    numbers: &[i64],
+    count: u64,
+) -> Result<Bytes, NoMemory>
+    ensures { IfOk result (λ text. text ≡ name.now ++ fields_then (map number_text numbers.now) (44 ∷ decimal count ++ 10 ∷ [])) }
+{
+    let last = count_field(alloc, count)?;
+    numbers_then(alloc, name, numbers, last.as_slice())
+}
+
 fn whole(alloc: Global, text: &[u8]) -> Result<Bytes, NoMemory>
     ensures { IfOk result (λ bytes. bytes ≡ text.now) }
 {
     Ok(Bytes::from_vec(text.to_vec(alloc)?))
-}
-
-fn memory_text(alloc: Global, footprint: u64) -> Result<Bytes, NoMemory>
-    ensures { IfOk result (λ text. text ≡ text_of (Line.Stop (Stop.Memory footprint))) }
-{
-    let digits = footprint.to_string(alloc)?;
-    let mut text = Bytes::new(alloc);
-    text.append(b"stop,memory,")?;
-    text.append(digits.as_bytes())?;
-    text.append(b"\n")?;
-    Ok(text)
 }
 
 fn stop_text(alloc: Global, why: Stop) -> Result<Bytes, NoMemory>
@@ -80,7 +94,7 @@ fn stop_text(alloc: Global, why: Stop) -> Result<Bytes, NoMemory>
     match why {
         Stop::Finished => whole(alloc, b"stop,finished\n"),
         Stop::Stopped => whole(alloc, b"stop,stopped\n"),
-        Stop::Memory(footprint) => memory_text(alloc, footprint),
+        Stop::Memory(footprint) => count_line(alloc, b"stop,memory", &[], footprint),
         Stop::Active(clump) => number_line(alloc, b"stop,active", &[i64::from(clump)]),
         Stop::NotOwner(mutex) => number_line(alloc, b"stop,not_owner", &[i64::from(mutex)]),
         Stop::NoCaller(number) => number_line(alloc, b"stop,no_caller", &[i64::from(number)]),

@@ -10,16 +10,25 @@ use Rattle.nxt_edge.proofs.Known.{Appends-none}
 use Rattle.nxt_model.specs.Image.{Image}
 use Rattle.nxt_tool.specs.Due.{Answer, answer, Meets, RunOn, answer_to, answer_given, read_status, write_status, refused_answer, OfFile, Run, Due, Answers}
 use Rattle.nxt_tool.specs.Words.{is_run}
-use Rattle.nxt_tool.specs.Accepted.{IsAcceptedAs, IsRefused}
+use Rattle.nxt_tool.specs.Accepted.{BreaksNone, IsAcceptedAs, IsRefused, code_in}
 use Rattle.nxt_tool.specs.FirstFile.{image_in}
 use Rattle.nxt_tool.specs.declared.accept.Refusal.{Refusal}
 use Rattle.nxt_tool.specs.declared.accept.Refusal.TheVariants as refusals
-use Rattle.nxt_types.specs.Refusals.{IsRefusal}
+use Rattle.nxt_types.specs.Refusals.{IsRefusal, IsAccepted}
 use Rattle.nxt_rxe.specs.declared.parts.Parts.{Parts}
 use Rattle.nxt_rxe.specs.declared.fault.RxeFault.{RxeFault}
 use Rattle.nxt_rxe.specs.Files.{IsFile}
 use Rattle.nxt_rxe.specs.FileRules.{Broken, rank}
 use Rattle.nxt_rxe.proofs.Decided.{file_or_refusal}
+use Rattle.nxt_layout.specs.declared.fault.LayoutFault.{LayoutFault}
+use Rattle.nxt_layout.specs.LayoutRules as layout_rules
+use Rattle.nxt_layout.specs.Layouts.{BrokenNow}
+use Rattle.nxt_layout.specs.Start.{HasShapes}
+use Rattle.nxt_layout.proofs.Decided.{layout_or_refusal}
+use Rattle.nxt_code.specs.declared.fault.CodeFault.{CodeFault}
+use Rattle.nxt_code.specs.CodeRules as code_rules
+use Rattle.nxt_code.proofs.Decided.{code_or_refusal}
+use Rattle.nxt_types.specs.Shapes.{Members}
 use Rattle.nxt_tool.specs.declared.writing.Fault.{Fault}
 use Rattle.nxt_tool.specs.declared.writing.Fault.TheVariants.{Write, NoMemory as NoRoom}
 use Rattle.nxt_tool.specs.Rows.{given, at_first}
@@ -106,14 +115,30 @@ pub accepted_run : (program script : List ℕ) (image : Image) (a : Answer) → 
 accepted_run program script image a few accepted on =
     within_by (nat_lt 262144 (length program)) a _ (short_program program few) (inr (image, accepted, on))
 
-by_image : (program script : List ℕ) (p : Parts) (o : Option Image) → IsFile program p → image_in p ≡ o → (a : Answer) × OfFile program (λ image. RunOn image script) a
-by_image program script p None file e = (refused_answer refusals.Unbuilt, inl (refusals.Unbuilt, (p, file, e), refl))
-by_image program script p (Some image) file e =
-    (answer_to image script, inr (image, record { parts = p; file = file; image_is = e }, run_on image script))
+abbrev OnProgram : List ℕ → List ℕ → Type 0
+OnProgram program script = (a : Answer) × OfFile program (λ image. RunOn image script) a
 
-by_file : (program script : List ℕ) → ((f : RxeFault) × IsRefusal (Broken program) rank f) ⊎ ((p : Parts) × IsFile program p) → (a : Answer) × OfFile program (λ image. RunOn image script) a
+by_image : (program script : List ℕ) (p : Parts) (ss : Members) (o : Option Image) → IsFile program p → BreaksNone p ss → image_in p ≡ o → OnProgram program script
+by_image program script p ss None file sound e = (refused_answer refusals.Unbuilt, inl (refusals.Unbuilt, (p, file, (ss, sound, e)), refl))
+by_image program script p ss (Some image) file sound e =
+    (answer_to image script, inr (image, record { parts = p; file = file; shapes = ss; sound = sound; image_is = e }, run_on image script))
+
+by_code : (program script : List ℕ) (p : Parts) (ss : Members) → IsFile program p → IsAccepted (BrokenNow p) → HasShapes p ss →
+    ((f : CodeFault) × IsRefusal (code_rules.Broken (code_in p ss)) code_rules.rank f) ⊎ IsAccepted (code_rules.Broken (code_in p ss)) → OnProgram program script
+by_code program script p ss file layout shapes (inl found) =
+    (refused_answer (refusals.Code found.0), inl (refusals.Code found.0, (p, file, (layout, ss, shapes, found.1)), refl))
+by_code program script p ss file layout shapes (inr code) =
+    by_image program script p ss (image_in p) file (record { layout = layout; shapes = shapes; code = code }) refl
+
+by_layout : (program script : List ℕ) (p : Parts) → IsFile program p → ((f : LayoutFault) × IsRefusal (BrokenNow p) layout_rules.rank f) ⊎ (IsAccepted (BrokenNow p) × (ss : Members) × HasShapes p ss) → OnProgram program script
+by_layout program script p file (inl found) = (refused_answer (refusals.Layout found.0), inl (refusals.Layout found.0, (p, file, found.1), refl))
+by_layout program script p file (inr found) = by_code program script p found.1 file found.0 found.2 (code_or_refusal (code_in p found.1))
+
+by_file : (program script : List ℕ) → ((f : RxeFault) × IsRefusal (Broken program) rank f) ⊎ ((p : Parts) × IsFile program p) → OnProgram program script
 by_file program script (inl found) = (refused_answer (refusals.Sections found.0), inl (refusals.Sections found.0, found.1, refl))
-by_file program script (inr found) = by_image program script found.0 (image_in found.0) found.1 refl
+by_file program script (inr found) =
+    let whole = found.1.counts.defaults in
+    by_layout program script found.0 found.1 (layout_or_refusal found.0 (omega (arith, whole)))
 
 by_length : (long : Bool) (program script : List ℕ) → AreBytes program → (a : Answer) × MatchBool long (a ≡ answer status.TooLarge [] []) (OfFile program (λ image. RunOn image script) a)
 by_length true program script bytes = (answer status.TooLarge [] [], refl)

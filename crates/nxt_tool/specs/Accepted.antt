@@ -1,36 +1,80 @@
 -- Accepted files and refused ones.
 use Rattle.std.specs.Prelude.{◌≡◌, ℕ, List, [], ◌∷◌, map, codes, decimal, Some, None}
-use Rattle.nxt_types.specs.Refusals.{IsRefusal}
+use Rattle.nxt_types.specs.Refusals.{IsRefusal, IsAccepted}
+use Rattle.nxt_types.specs.Shapes.{Members}
 use Rattle.nxt_rxe.specs.declared.parts.Parts.{Parts}
 use Rattle.nxt_rxe.specs.Files.{IsFile}
-use Rattle.nxt_rxe.specs.FileRules.{Broken, rank}
+use Rattle.nxt_rxe.specs.FileRules as file_rules
+use Rattle.nxt_layout.specs.declared.fault.LayoutFault.{LayoutFault}
+use Rattle.nxt_layout.specs.declared.fault.LayoutFault.TheVariants as layout_faults
+use Rattle.nxt_layout.specs.LayoutRules as layout_rules
+use Rattle.nxt_layout.specs.Layouts.{BrokenNow}
+use Rattle.nxt_layout.specs.Start.{HasShapes}
+use Rattle.nxt_code.specs.CodeRules as code_rules
 use Rattle.nxt_model.specs.Image.{Image}
 use Rattle.nxt_model.specs.LineText.{line_of}
 use Rattle.nxt_tool.specs.FirstFile.{image_in}
 use Rattle.nxt_tool.specs.declared.accept.Refusal.{Refusal}
-use Rattle.nxt_tool.specs.declared.accept.Refusal.TheVariants.{Sections, Unbuilt}
+use Rattle.nxt_tool.specs.declared.accept.Refusal.TheVariants.{Sections, Layout, Code, Unbuilt}
 use Rattle.nxt_tool.specs.declared.accept.AcceptFault.{AcceptFault}
 use Rattle.nxt_tool.specs.declared.accept.AcceptFault.TheVariants.{Refused, NoMemory}
+
+-- the clumps and the code of a file whose variables have these shapes
+abbrev pub code_in : Parts → Members → code_rules.Program
+code_in p ss = code_rules.program ss p.clumps p.dependents p.code
+
+-- ---- accepted files
+
+-- the parts break no rule, and their variables have these shapes
+pub record BreaksNone (p : Parts) (ss : Members) : Type 0 where
+  pub layout : IsAccepted (BrokenNow p)
+  pub shapes : HasShapes p ss
+  pub code : IsAccepted (code_rules.Broken (code_in p ss))
 
 -- the bytes are a file with this image
 pub record IsAcceptedAs (bytes : List ℕ) (image : Image) : Type 0 where
   pub parts : Parts
   pub file : IsFile bytes parts
+  pub shapes : Members
+  pub sound : BreaksNone parts shapes
   pub image_is : image_in parts ≡ Some image
 
--- the file is refused: by the first rule of its sections that is broken, or since its image doesn't run yet
+-- ---- refused files
+
+-- the first broken rule of the table and the data, or else of the clumps and the code; or the image doesn't run yet
+abbrev pub RefusesParts : Parts → Refusal → Type 0
+RefusesParts p (Sections f) = ⊥
+RefusesParts p (Layout f) = IsRefusal (BrokenNow p) layout_rules.rank f
+RefusesParts p (Code f) =
+    IsAccepted (BrokenNow p) × (ss : Members) × HasShapes p ss × IsRefusal (code_rules.Broken (code_in p ss)) code_rules.rank f
+RefusesParts p Unbuilt = (ss : Members) × BreaksNone p ss × (image_in p ≡ None)
+
+-- the file is refused: by the first broken rule of its sections, or for its parts
 abbrev pub IsRefused : List ℕ → Refusal → Type 0
-IsRefused bytes (Sections f) = IsRefusal (Broken bytes) rank f
-IsRefused bytes Unbuilt = (p : Parts) × IsFile bytes p × (image_in p ≡ None)
+IsRefused bytes (Sections f) = IsRefusal (file_rules.Broken bytes) file_rules.rank f
+IsRefused bytes r = (p : Parts) × IsFile bytes p × RefusesParts p r
 
 -- an answer that is no program has its cause; want of memory is free
 abbrev pub HasCause : List ℕ → AcceptFault → Type 0
 HasCause bytes (Refused r) = IsRefused bytes r
 HasCause bytes NoMemory = Unit {0}
 
+abbrev pub PartsCause : Parts → AcceptFault → Type 0
+PartsCause p (Refused r) = RefusesParts p r
+PartsCause p NoMemory = Unit {0}
+
+-- ---- lines
+
+-- a table that spells an array isn't judged by the rules on rows yet
+abbrev pub shown : LayoutFault → List ℕ
+shown layout_faults.Unbuilt = 0 ∷ []
+shown f = layout_rules.rank f
+
 -- what the line tells: the rule's number, and the place
 abbrev pub told : Refusal → List ℕ
-told (Sections f) = rank f
+told (Sections f) = file_rules.rank f
+told (Layout f) = shown f
+told (Code f) = code_rules.rank f
 told Unbuilt = 0 ∷ []
 
 abbrev pub refused_line : List ℕ → List ℕ

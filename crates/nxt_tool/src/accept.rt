@@ -1,12 +1,16 @@
 // Whether a program file is accepted, and the line of one that isn't.
 
-ghost use Rattle.std.specs.Prelude.{◌≡◌, MatchResult, IfOk};
-ghost use Rattle.nxt_tool.specs.Accepted.{IsAcceptedAs, HasCause, refused_line, told};
+ghost use Rattle.std.specs.Prelude.{◌≡◌, [], ◌∷◌, MatchResult, IfOk};
+ghost use Rattle.nxt_types.specs.Shapes.{Members};
+ghost use Rattle.nxt_rxe.specs.Files.{HasCounts, Fits};
+ghost use Rattle.nxt_tool.specs.Accepted.{BreaksNone, IsAcceptedAs, HasCause, PartsCause, refused_line, told};
 
 use crate::image::{ReadFault, first_image};
 use crate::machine::Image;
-use nxt_model::text::number_line;
-use nxt_rxe::{RxeFault, read_rxe};
+use nxt_code::{CodeFault, check_code};
+use nxt_layout::{LayoutFault, check_layout};
+use nxt_model::text::{count_line, number_line};
+use nxt_rxe::{Parts, RxeFault, read_rxe};
 use nxt_types::{Bytes, NoMemory};
 use std::alloc::Global;
 
@@ -15,6 +19,10 @@ use std::alloc::Global;
 pub enum Refusal {
     /// A rule of its sections is broken.
     Sections(RxeFault),
+    /// A rule of its table and data is broken.
+    Layout(LayoutFault),
+    /// A rule of its clumps and code is broken.
+    Code(CodeFault),
     /// It is none of the images that run today.
     Unbuilt,
 }
@@ -35,10 +43,33 @@ pub fn accept(alloc: Global, bytes: &[u8]) -> Result<Image, AcceptFault>
         Err(RxeFault::NoMemory) => return Err(AcceptFault::NoMemory),
         Err(fault) => return Err(AcceptFault::Refused(Refusal::Sections(fault))),
     };
+    match judge(alloc, &parts) {
+        Ok(()) => {}
+        Err(fault) => return Err(fault),
+    }
     match first_image(alloc, parts) {
         Ok(image) => Ok(image),
         Err(ReadFault::NoMemory) => Err(AcceptFault::NoMemory),
         Err(ReadFault::Refused) => Err(AcceptFault::Refused(Refusal::Unbuilt)),
+    }
+}
+
+// Whether the parts of a file break no rule.
+fn judge(alloc: Global, parts: &Parts) -> Result<(), AcceptFault>
+    requires counts { HasCounts parts.now }
+    requires fits { Fits parts.now }
+    ensures { MatchResult result (λ _. (ss : Members) × BreaksNone parts.now ss) (PartsCause parts.now) }
+{
+    let layout = match check_layout(alloc, parts) {
+        Ok(layout) => layout,
+        Err(LayoutFault::NoMemory) => return Err(AcceptFault::NoMemory),
+        Err(fault) => return Err(AcceptFault::Refused(Refusal::Layout(fault))),
+    };
+    let toc = layout.toc();
+    match check_code(alloc, toc, &parts.clumps, &parts.dependents, &parts.code) {
+        Ok(_) => Ok(()),
+        Err(CodeFault::NoMemory) => Err(AcceptFault::NoMemory),
+        Err(fault) => Err(AcceptFault::Refused(Refusal::Code(fault))),
     }
 }
 
@@ -49,6 +80,8 @@ pub fn refusal_line(alloc: Global, refusal: Refusal) -> Result<Bytes, NoMemory>
     match refusal {
         Refusal::Unbuilt => number_line(alloc, b"refused", &[0]),
         Refusal::Sections(fault) => sections_line(alloc, fault),
+        Refusal::Layout(fault) => layout_line(alloc, fault),
+        Refusal::Code(fault) => code_line(alloc, fault),
     }
 }
 
@@ -56,10 +89,61 @@ fn sections_line(alloc: Global, fault: RxeFault) -> Result<Bytes, NoMemory>
     ensures { IfOk result (λ text. text ≡ refused_line (told (Refusal.Sections fault))) }
 {
     match fault {
-        RxeFault::Short(bytes) => number_line(alloc, b"refused", &[1, i64::from(bytes)]),
-        RxeFault::Format(byte) => number_line(alloc, b"refused", &[2, i64::from(byte)]),
-        RxeFault::Version(version) => number_line(alloc, b"refused", &[3, i64::from(version)]),
-        RxeFault::Section(section) => number_line(alloc, b"refused", &[4, i64::from(section)]),
+        RxeFault::Short(bytes) => place_line(alloc, 1, bytes),
+        RxeFault::Format(byte) => place_line(alloc, 2, byte),
+        RxeFault::Version(version) => place_line(alloc, 3, u32::from(version)),
+        RxeFault::Section(section) => place_line(alloc, 4, u32::from(section)),
         RxeFault::NoMemory => Err(NoMemory),
     }
+}
+
+fn layout_line(alloc: Global, fault: LayoutFault) -> Result<Bytes, NoMemory>
+    ensures { IfOk result (λ text. text ≡ refused_line (told (Refusal.Layout fault))) }
+{
+    match fault {
+        LayoutFault::TypeCode(entry) => place_line(alloc, 5, entry),
+        LayoutFault::TypeOpen(entry) => place_line(alloc, 6, entry),
+        LayoutFault::Depth(entry) => place_line(alloc, 7, entry),
+        LayoutFault::MutexInside(entry) => place_line(alloc, 8, entry),
+        LayoutFault::Place(entry) => place_line(alloc, 9, entry),
+        LayoutFault::Overlap(first, second) => places_line(alloc, 10, first, second),
+        LayoutFault::DefaultsShort(entry) => place_line(alloc, 11, entry),
+        LayoutFault::Unbuilt => number_line(alloc, b"refused", &[0]),
+        LayoutFault::RowZero => number_line(alloc, b"refused", &[12]),
+        LayoutFault::RowIndex(entry) => place_line(alloc, 13, entry),
+        LayoutFault::RowShared(row) => place_line(alloc, 14, row),
+        LayoutFault::Stride(row) => place_line(alloc, 15, row),
+        LayoutFault::RowPlace(row) => place_line(alloc, 16, row),
+        LayoutFault::RowOverlap(first, second) => places_line(alloc, 17, first, second),
+        LayoutFault::PoolPassed(footprint) => count_line(alloc, b"refused", &[18], footprint),
+        LayoutFault::NoMemory => Err(NoMemory),
+    }
+}
+
+fn code_line(alloc: Global, fault: CodeFault) -> Result<Bytes, NoMemory>
+    ensures { IfOk result (λ text. text ≡ refused_line (told (Refusal.Code fault))) }
+{
+    match fault {
+        CodeFault::ClumpCount(count) => place_line(alloc, 19, count),
+        CodeFault::ClumpStart(clump) => place_line(alloc, 20, clump),
+        CodeFault::Dependent(clump, position) => places_line(alloc, 21, clump, position),
+        CodeFault::Instr(word) => place_line(alloc, 22, word),
+        CodeFault::Operand(word, operand) => places_line(alloc, 23, word, operand),
+        CodeFault::Jump(word) => place_line(alloc, 24, word),
+        CodeFault::FallsOut(word) => place_line(alloc, 25, word),
+        CodeFault::NoMemory => Err(NoMemory),
+    }
+}
+
+fn place_line(alloc: Global, rule: u8, place: u32) -> Result<Bytes, NoMemory>
+    ensures { IfOk result (λ text. text ≡ refused_line (rule ∷ place ∷ [])) }
+{
+    number_line(alloc, b"refused", &[i64::from(rule), i64::from(place)])
+}
+
+fn places_line(alloc: Global, rule: u8, first: u32, second: u32) -> Result<Bytes, NoMemory>
+    ensures { IfOk result (λ text. text ≡ refused_line (rule ∷ first ∷ second ∷ [])) }
+{
+    let places = [i64::from(rule), i64::from(first), i64::from(second)];
+    number_line(alloc, b"refused", &places)
 }

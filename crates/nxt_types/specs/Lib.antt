@@ -2,6 +2,7 @@ pub mod Refusals
 pub mod Arithmetic
 pub mod Shapes
 pub mod Names
+pub mod Tables
 pub mod Opcodes
 pub mod Arities
 pub mod Statements

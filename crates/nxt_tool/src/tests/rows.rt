@@ -194,18 +194,42 @@ fn cut_images(rt: HostRuntime) -> Result<(), Fail> {
     Ok(())
 }
 
+// A cluster of two members, of which the table has one.
+const OPEN_CLUSTER: [u8; 54] = [
+    77, 105, 110, 100, 115, 116, 111, 114, 109, 115, 78, 88, 84, 0, 0, 5, 2, 0, 0, 0, 0, 0, 0, 0,
+    0, 0, 0, 0, 0, 0, 0, 0, 0, 0, 1, 0, 2, 0, 8, 0, 2, 0, 1, 0, 0, 0, 0, 0, 0, 0, 37, 64, 0, 0,
+];
+
+// A uword at 0 and a ubyte at 1.
+const OVERLAPPING_ENTRIES: [u8; 58] = [
+    77, 105, 110, 100, 115, 116, 111, 114, 109, 115, 78, 88, 84, 0, 0, 5, 2, 0, 2, 0, 2, 0, 3, 0,
+    0, 0, 0, 0, 0, 0, 0, 0, 0, 0, 1, 0, 2, 0, 3, 0, 0, 0, 1, 0, 1, 0, 0, 0, 0, 0, 0, 0, 0, 0, 37,
+    64, 0, 0,
+];
+
 #[test]
 fn other_files(rt: HostRuntime) -> Result<(), Fail> {
     let alloc = rt.alloc();
     let mut header = b"MindstormsNXT\0\0\x05".to_vec(alloc)?;
     header.extend_from_slice(&[0; 22])?;
-    refused(&rt, alloc, header.as_slice(), b"refused,0\n")?;
+    refused(&rt, alloc, header.as_slice(), b"refused,19,0\n")?;
     let mut version = b"MindstormsNXT\0\0\x06".to_vec(alloc)?;
     version.extend_from_slice(&[0; 22])?;
     refused(&rt, alloc, version.as_slice(), b"refused,3,6\n")?;
     let mut format = b"MindstormsNXC\0\0\x05".to_vec(alloc)?;
     format.extend_from_slice(&[0; 22])?;
-    refused(&rt, alloc, format.as_slice(), b"refused,2,12\n")
+    refused(&rt, alloc, format.as_slice(), b"refused,2,12\n")?;
+    refused(&rt, alloc, &OPEN_CLUSTER, b"refused,6,0\n")?;
+    refused(&rt, alloc, &OVERLAPPING_ENTRIES, b"refused,10,0,1\n")?;
+    let mut inside_a_statement = MOTOR;
+    inside_a_statement[56] = 1;
+    refused(&rt, alloc, &inside_a_statement, b"refused,20,0\n")?;
+    let mut no_operation = ENDLESS_JUMP;
+    no_operation[42] = 0x0F;
+    refused(&rt, alloc, &no_operation, b"refused,22,0\n")?;
+    let mut jump_past_the_end = ENDLESS_JUMP;
+    jump_past_the_end[44] = 1;
+    refused(&rt, alloc, &jump_past_the_end, b"refused,24,0\n")
 }
 
 // Every call would fail, so a read or a write would show in the status.

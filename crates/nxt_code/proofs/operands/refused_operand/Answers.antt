@@ -1,0 +1,18 @@
+-- The first operand that doesn't fit.
+use Rattle.std.proofs.Common.{◌≡◌, ◌<◌, true, length, sym, ◌∙◌, arith, below_more}
+use Rattle.nxt_types.specs.Statements.{statement_of}
+use Rattle.nxt_types.specs.OperandRules.{operand_fits}
+use Rattle.nxt_code.specs.OperandsSeen.{operands}
+use Rattle.nxt_code.proofs.OperandLaws.{first_refused}
+use Rattle.nxt_code.proofs.operands.refused_operand.Goals as goal
+
+pub returns-then-not-operand_fits : goal.returns-then-not-operand_fits
+returns-then-not-operand_fits c =
+    let l : c.loop-k.k < length (statement_of c.args.instr.now c.args.words.now).args = omega arith in
+    first_refused (operand_fits c.args.clumps c.args.instr.now.op (operands c.args.toc.now.shapes c.args.instr.now c.args.words.now)) (length (statement_of c.args.instr.now c.args.words.now).args)
+    c.loop-k.k l (sym c.operand_fits.ensures ∙ c.if-not-operand_fits.true) c.loop-k.invariant
+
+pub loop-k-preserved : goal.loop-k-preserved
+loop-k-preserved c =
+    below_more (λ j. operand_fits c.args.clumps c.args.instr.now.op (operands c.args.toc.now.shapes c.args.instr.now c.args.words.now) j ≡ true) c.loop-k.k c.loop-k.invariant
+    (sym c.operand_fits.ensures ∙ c.if-not-operand_fits.false)

@@ -1,0 +1,29 @@
+mod LayoutRows
+pub mod StartLaw
+mod OpenRows
+pub mod Opening
+pub mod Whole
+pub mod Marks
+pub mod First
+pub mod LeafLemmas
+pub mod Pairs
+pub mod Defaults
+pub mod Taking
+pub mod Shaping
+pub mod Values
+pub mod Settled
+pub mod Starting
+pub mod Judging
+pub mod Owning
+pub mod Decided
+pub mod Each
+pub mod Found
+pub mod Fair
+pub mod FairReads
+pub mod RowCounts
+pub mod OwnRows
+pub mod ApartRows
+pub mod LeafOrder
+pub mod StrideFree
+pub mod RulesKept
+pub mod Starts

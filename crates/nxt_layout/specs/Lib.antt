@@ -1,0 +1,11 @@
+pub mod Items
+pub mod Enclosing
+pub mod Leaves
+pub mod Dataspace
+pub mod LeafPasses
+pub mod Owners
+pub mod Shaping
+pub mod Rows
+pub mod Start
+pub mod LayoutRules
+pub mod Layouts

@@ -1,0 +1,66 @@
+-- The variables of an accepted file at the start, with the strides of their lists.
+use Rattle.std.specs.Prelude.{◌≡◌, ℕ, ◌+◌, List, find, if◌then◌else◌, Option, Some, None}
+use Rattle.nxt_types.specs.Shapes.{Shape, Void, Number, Array, Cluster, Mutex, Members, no_members, member, some_list}
+use Rattle.nxt_types.specs.Names.{size}
+use Rattle.nxt_rxe.specs.declared.parts.Parts.{Parts}
+use Rattle.nxt_model.specs.Values.{Value, lists_in}
+use Rattle.nxt_model.specs.Footprint.{footprint, rows_for}
+use Rattle.nxt_model.specs.Reading.{HeldList, ReadsAs, row_count}
+use Rattle.nxt_layout.specs.Leaves.{Leaf, leaves, leaf_of, extent, AreShapes}
+use Rattle.nxt_layout.specs.Dataspace.{memory}
+use Rattle.nxt_layout.specs.Rows.{Ground, row, has_elements, reached_through}
+
+abbrev pub ground : Parts → Members → Ground
+ground p ss = record { memory = memory p ss; static_size = p.header.static_size; leaves = leaves p.toc ss }
+
+-- ---- strides
+
+abbrev pub stride_of_row : Ground → ℕ → Option ℕ → ℕ
+stride_of_row g a None = extent g.leaves a
+stride_of_row g a (Some r) = (row g r).stride
+
+-- the stride of the rows with elements that are reached through the entry, or else the extent of its element
+abbrev pub stride_through : Ground → Option Leaf → ℕ
+stride_through g None = 0
+stride_through g (Some l) = stride_of_row g l.entry (find (has_elements g) (reached_through g l))
+
+abbrev pub stride_of : Ground → ℕ → ℕ
+stride_of g a = stride_through g (leaf_of g.leaves a)
+
+-- a shape, of which the first entry is entry i, with the strides that f gives for its entries
+abbrev mutual
+  pub with_strides : (ℕ → ℕ) → ℕ → Shape → Shape
+  with_strides f i Void = Void
+  with_strides f i (Number k) = Number k
+  with_strides f i (Array n s) = Array (f i) (with_strides f (i + 1) s)
+  with_strides f i (Cluster ss) = Cluster (all_with_strides f (i + 1) ss)
+  with_strides f i Mutex = Mutex
+
+  pub all_with_strides : (ℕ → ℕ) → ℕ → Members → Members
+  all_with_strides f i no_members = no_members
+  all_with_strides f i (member s ss) = member (with_strides f i s) (all_with_strides f (i + size s) ss)
+
+-- ---- the start
+
+-- the rows of the file's table, or 1 where it has no arrays
+abbrev pub file_rows : Parts → Members → ℕ
+file_rows p ss = if some_list ss then row_count (memory p ss) else 1
+
+-- the variables' shapes, each list with its stride
+pub record HasShapes (p : Parts) (ss : Members) : Type 0 where
+  pub plain : Members
+  pub shapes : AreShapes p.toc plain
+  pub strides : ss ≡ all_with_strides (stride_of (ground p plain)) 0 plain
+
+-- and the values as which the dataspace reads
+pub record StartsAs (p : Parts) (ss : Members) (vars : Value) : Type 0 where
+  pub shapes : HasShapes p ss
+  pub lists : List HeldList
+  pub reads : ReadsAs (memory p ss) ss vars lists
+
+abbrev pub rows_at_start : Parts → Members → Value → ℕ
+rows_at_start p ss vars = rows_for (file_rows p ss) (lists_in vars)
+
+-- the footprint at the start
+abbrev pub start_footprint : Parts → Members → Value → ℕ
+start_footprint p ss vars = footprint p.header.static_size (rows_at_start p ss vars) ss vars
