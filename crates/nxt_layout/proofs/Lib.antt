@@ -27,3 +27,4 @@ pub mod LeafOrder
 pub mod StrideFree
 pub mod RulesKept
 pub mod Starts
+pub mod StartSize

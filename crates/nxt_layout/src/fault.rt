@@ -6,25 +6,42 @@ ghost use Rattle.nxt_layout.specs.declared.fault.LayoutFault.TheVariants.{NoMemo
 use nxt_types::NoMemory;
 use std::alloc::{AllocError, AllocFailed};
 
-/// The first broken rule of a file's table and data, at its least place.
+/// The first broken rule of a file's table and data, at its least place. The numbers are what a refusal shows beside the
+/// rule (Executable File Specification, "Dataspace Table of Contents", "Default Values", "Dope Vectors"). Entries count
+/// from 0 in the table, rows from 0 in the table of rows.
 #[derive(Clone, Copy, PartialEq, Eq, Debug)]
 pub enum LayoutFault {
+    /// An entry whose type code is none of 0 to 9.
     TypeCode(u32),
+    /// The entry at which a variable begins that is cut off by the table's end, or has an empty cluster or a void inside.
     TypeOpen(u32),
+    /// An entry that more than 8 arrays and clusters enclose.
     Depth(u32),
+    /// The entry of a mutex in an array or a cluster.
     MutexInside(u32),
+    /// The entry of a leaf that ends past the static bytes, or past the greatest element.
     Place(u32),
+    /// Two entries whose leaves share a byte, the first of them first.
     Overlap(u32, u32),
+    /// The entry of a leaf whose default ends past the default data.
     DefaultsShort(u32),
     /// No rule up to the defaults is broken, and the table spells an array, whose rows aren't judged yet.
     Unbuilt,
+    /// The table of rows doesn't lie behind the static bytes in the dataspace, or row 0 doesn't tell it.
     RowZero,
+    /// The entry of an array that names a row past the table of rows.
     RowIndex(u32),
+    /// A row that two lists name.
     RowShared(u32),
+    /// A row whose stride is less than an element takes, or isn't that of the array's rows before it.
     Stride(u32),
+    /// A row whose elements begin in the static bytes, or end past the dataspace.
     RowPlace(u32),
+    /// Two rows whose elements share a byte, the lesser first.
     RowOverlap(u32, u32),
+    /// The pool that the start needs, in bytes, which is more than 32,768.
     PoolPassed(u64),
+    /// The host's memory was not there.
     NoMemory,
 }
 

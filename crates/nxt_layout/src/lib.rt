@@ -1,14 +1,15 @@
-// The rules of a file's table and data.
+//! Checks the dataspace table and the default data of a file against the rules of an accepted file ("LEGO MINDSTORMS NXT
+//! Executable File Specification", "Dataspace Table of Contents", "Default Values").
 #![tactic(auto)]
 
-pub mod enclosing;
+mod enclosing;
 pub mod fault;
-pub mod item;
+mod item;
 pub mod layout;
-pub mod leaves;
-pub mod overlap;
-pub mod shapes;
-pub mod table;
+mod leaves;
+mod overlap;
+mod shapes;
+mod table;
 
 pub use fault::LayoutFault;
 pub use layout::{Layout, check_layout};
