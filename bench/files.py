@@ -2,8 +2,9 @@
 """Times large files on a built program: bench/files.py PATH_OF_NXT
 
 Two files have a table of 49,000 entries: they share no byte, or the last stands on the byte of the one before it. Two have
-65,000 code words with a jump in each second statement: each lands on a statement, or the last lands inside one. Prints the
-seconds and the line of each.
+65,000 code words with a jump in each second statement: each lands on a statement, or the last lands inside one. Three have a
+list of 2,000 or 5,000 lists of a byte each: they share no byte, the last two share theirs, or all share one. In the last one
+lists stand eight deep, and each of 3,000 elements names the same next list. Prints the seconds and the line of each.
 """
 import os
 import struct
@@ -40,11 +41,44 @@ def code_file(last_offset):
     return image(1, [0], (MOV + jump(2)) * (PAIRS - 1) + MOV + jump(last_offset))
 
 
+def lists_file(depth, rows, data):
+    """A file whose one variable is a list in lists, so deep, with row 1 as its list; rows by place, stride and count."""
+    table = b"".join(struct.pack("<BBH", 7, 0, 0) for _ in range(depth)) + struct.pack("<BBH", 1, 0, 0)
+    rows = [(2, 10, len(rows) + 1)] + rows
+    dynamic = b"".join(struct.pack("<5H", *row, 0, 0) for row in rows) + data
+    words = jump(0)
+    head = b"MindstormsNXT\0\0\5" + struct.pack(
+        "<11H", depth + 1, 2 + len(dynamic), 2, 2 + len(dynamic), 2, len(dynamic), 0, 0, 2, 1, len(words) // 2
+    )
+    pad = b"\0" * (len(dynamic) % 2)
+    return head + table + struct.pack("<H", 1) + dynamic + pad + struct.pack("<BBH", 0, 0, 0) + words
+
+
+def nested_file(count, step, last):
+    """A list of lists of a byte each, `step` bytes apart, the last on the byte with that number."""
+    numbers = 2 + 10 * (count + 2)
+    bytes_at = numbers + 2 * count
+    places = [bytes_at + step * i for i in range(count - 1)] + [bytes_at + last]
+    rows = [(numbers, 2, count)] + [(place, 1, 1) for place in places]
+    return lists_file(2, rows, struct.pack("<%dH" % count, *range(2, count + 2)) + bytes(count))
+
+
+def deep_file(count):
+    """Lists eight deep, each of whose elements name the same next list."""
+    first = 2 + 10 * 9
+    rows = [(first + 2 * count * i, 2 if i < 7 else 1, count) for i in range(8)]
+    return lists_file(8, rows, b"".join(struct.pack("<H", i + 2) * count for i in range(7)) + bytes(count))
+
+
 FILES = (
     ("49,000 entries apart", table_file(ENTRIES - 1)),
     ("their last pair overlaps", table_file(ENTRIES - 2)),
     ("65,000 words of jumps", code_file(-3)),
     ("their last jump is lost", code_file(-2)),
+    ("2,000 lists apart", nested_file(2000, 1, 1999)),
+    ("their last two overlap", nested_file(2000, 1, 1998)),
+    ("5,000 lists on one byte", nested_file(5000, 0, 0)),
+    ("eight deep, one list each", deep_file(3000)),
 )
 
 

@@ -4,13 +4,19 @@ set -u
 nxt=$(realpath "${1:?the path of the built program}")
 cd "$(dirname "$0")" || exit 1
 failed=0
-for report in *.report; do
-    name=${report%.report}
-    if "$nxt" run rxe "$name.rxe" "$name.csv" | cmp -s - "$report"; then
-        echo "$name: as expected"
+compare() {
+    if cmp -s - "$1"; then
+        echo "$1: as expected"
     else
-        echo "$name: differs"
+        echo "$1: differs"
         failed=1
     fi
+}
+for report in *.report; do
+    name=${report%.report}
+    compare "$report" < <("$nxt" run rxe "$name.rxe" "$name.csv")
+done
+for check in *.check; do
+    compare "$check" < <("$nxt" check "${check%.check}.rxe")
 done
 exit $failed

@@ -104,7 +104,7 @@ rising_kept : (l : Leaf) (i : ℕ) (ls : List Leaf) (b : Bool) → i ≤ l.entry
 rising_kept l i ls true h r = (h, r)
 rising_kept l i ls false h r = rising_from i (l.entry + 1) ls (omega (arith, h)) r
 
-rising_filter : (p : Leaf → Bool) (i : ℕ) (ls : List Leaf) → Rising i ls → Rising i (filter p ls)
+pub rising_filter : (p : Leaf → Bool) (i : ℕ) (ls : List Leaf) → Rising i ls → Rising i (filter p ls)
 rising_filter p i [] r = tt
 rising_filter p i (l ∷ ls) r = rising_kept l i (filter p ls) (p l) r.0 (rising_filter p (l.entry + 1) ls r.1)
 

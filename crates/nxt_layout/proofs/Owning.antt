@@ -223,7 +223,7 @@ pub solid_leaves : (i : ℕ) (ps : List Placed) → All IsSolid (leaves_from i p
 solid_leaves i [] = All-nil IsSolid
 solid_leaves i (p ∷ ps) = All-append IsSolid (leaf_list i p (item (outline p.entry))) (leaves_from (i + 1) ps) (solid_list i p (item (outline p.entry))) (solid_leaves (i + 1) ps)
 
-rises_later : (i j : ℕ) (ls : List Leaf) → j ≤ i → RisesFrom i ls → RisesFrom j ls
+pub rises_later : (i j : ℕ) (ls : List Leaf) → j ≤ i → RisesFrom i ls → RisesFrom j ls
 rises_later i j [] h r = tt
 rises_later i j (l ∷ ls) h r = (omega (arith, h, r.0), r.1)
 

@@ -105,9 +105,12 @@ kept_without g none =
       apart = λ q r. not_third (nat_lt q r) ((q == 0) || is_full g q) (is_full g r) (nat_lt (place_of_row g q) (end_of_row g r)) (nat_lt (place_of_row g r) (end_of_row g q)) (full r);
     }
 
+pub kept_without_list : (p : Parts) (plain : Members) → leaves p.toc plain ≡ leaves_among p.toc plain 0 [] → some_list plain ≡ false → AreKept (ground p plain)
+kept_without_list p plain order none =
+    kept_without (ground p plain) (ap (filter (λ l. is_array l.shape)) order ∙ no_arrays p.toc plain 0 [] none)
+
 pub are_kept : (p : Parts) (plain : Members) → AreShapes p.toc plain → leaves p.toc plain ≡ leaves_among p.toc plain 0 [] → KeepsRows p → AreKept (ground p plain)
 are_kept p plain shapes order rules =
-    let g = ground p plain in
     elim (cases_Bool (some_list plain)) [
       | inl some ↦ record {
         index = λ e. is_kept p plain (λ g. passes (names_no_row g) (leaf_of (arrays_of g) e)) shapes some (rules.index e);
@@ -116,7 +119,7 @@ are_kept p plain shapes order rules =
         placed = λ r. is_kept p plain (λ g. is_row_misplaced g r) shapes some (rules.placed r);
         apart = λ q r. is_kept p plain (λ g. rows_share_a_byte g q r) shapes some (rules.apart q r);
       }
-      | inr none ↦ kept_without g (ap (filter (λ l. is_array l.shape)) order ∙ no_arrays p.toc plain 0 [] none)
+      | inr none ↦ kept_without_list p plain order none
     ]
 
 -- ---- what that says of each array

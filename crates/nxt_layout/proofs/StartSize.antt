@@ -16,6 +16,7 @@ use Rattle.nxt_layout.specs.declared.fault.LayoutFault.TheVariants.{Place, PoolP
 use Rattle.nxt_layout.specs.Leaves.{Leaf, AreShapes, leaves, leaf_of}
 use Rattle.nxt_layout.specs.Rows.{Ground, row, has_elements, names_row, is_strided, is_array, elements_of, element_places, numbers_of, reached_through, reached, arrays_of, is_full}
 use Rattle.nxt_layout.specs.Start.{ground, stride_of, stride_of_row, stride_through, with_strides, all_with_strides, file_rows, start_footprint, StartsAs}
+use Rattle.nxt_layout.specs.RowPasses.{row_bytes, sum_below}
 use Rattle.nxt_layout.specs.LayoutRules.{Broken, PassesPool}
 use Rattle.nxt_layout.proofs.Each.{Each, each_from, each_then, each_both, each_apart, each_flat, each_filter, bit, tally}
 use Rattle.nxt_layout.proofs.Found.{number_at, row_lists, values_among, lists_at, lists_among, length-places, names_it}
@@ -349,10 +350,6 @@ one_stride g a rows (Some q) e strided =
 
 -- ---- rows
 
--- the bytes of a row's list, rounded up
-abbrev pub bytes_of_row : Ground → ℕ → ℕ
-bytes_of_row g r = round4 ((row g r).count * (row g r).stride)
-
 -- the row numbers of all arrays, one for each list; 0 is an empty list
 abbrev pub numbers : Ground → List ℕ
 numbers g = flat_map (numbers_of g) (arrays_of g)
@@ -375,7 +372,7 @@ named_total g stride (suc q ∷ ns) h =
 no_count : (g : Ground) (r : ℕ) → has_elements g r ≡ false → (row g r).count ≡ 0
 no_count g r e = let least : (row g r).count ≤ 0 = ltb-false 0 (row g r).count e in omega (arith, least)
 
-same_bytes : (g : Ground) (stride r : ℕ) (has : Bool) → has_elements g r ≡ has → (has_elements g r ≡ true → (row g r).stride ≡ stride) → round4 ((row g r).count * stride) ≡ bytes_of_row g r
+same_bytes : (g : Ground) (stride r : ℕ) (has : Bool) → has_elements g r ≡ has → (has_elements g r ≡ true → (row g r).stride ≡ stride) → round4 ((row g r).count * stride) ≡ row_bytes g r
 same_bytes g stride r true e h = ap (λ n. round4 ((row g r).count * n)) (sym (h e))
 same_bytes g stride r false e h =
     let none : (row g r).count ≡ 0 = no_count g r e in
@@ -383,18 +380,18 @@ same_bytes g stride r false e h =
     ∙ no_bytes stride
     ∙ sym (ap (λ n. round4 (n * (row g r).stride)) none ∙ no_bytes (row g r).stride)
 
-leaf_total : (g : Ground) (l : Leaf) → leaf_of g.leaves l.entry ≡ Some l → HasFairRows g l → weight_of bytes_held g (stride_of g) l ≡ total (bytes_of_row g) (reached_through g l)
+leaf_total : (g : Ground) (l : Leaf) → leaf_of g.leaves l.entry ≡ Some l → HasFairRows g l → weight_of bytes_held g (stride_of g) l ≡ total (row_bytes g) (reached_through g l)
 leaf_total g l found rows =
     let stride = stride_through g (Some l) in
     ap (λ o. total (λ r. bytes_held (held_of g (stride_through g o) r)) (numbers_of g l)) found
     ∙ named_total g stride (numbers_of g l) rows.named
     ∙ total_same
     (λ r. round4 ((row g r).count * stride))
-    (bytes_of_row g)
+    (row_bytes g)
     (reached_through g l)
     (each_then
     (λ r. has_elements g r ≡ true → (row g r).stride ≡ stride)
-    (λ r. round4 ((row g r).count * stride) ≡ bytes_of_row g r)
+    (λ r. round4 ((row g r).count * stride) ≡ row_bytes g r)
     (λ r h. same_bytes g stride r (has_elements g r) refl h)
     (reached_through g l)
     (one_stride g l.entry (reached_through g l) (find (has_elements g) (reached_through g l)) refl rows.strided))
@@ -407,7 +404,7 @@ start_bytes p plain =
     let g = ground p plain in
     round4 p.header.static_size
     + round4 (10 * max (file_rows p plain) (length (numbers g) + 1))
-    + sum_by (bytes_of_row g) (reached g)
+    + sum_by (row_bytes g) (reached g)
 
 mutual
   has_list-with_strides : (f : ℕ → ℕ) (i : ℕ) (s : Shape) → has_list (with_strides f i s) ≡ has_list s
@@ -422,7 +419,7 @@ mutual
   some_list-with_strides f i (member s ss) =
       ap₂ (λ (a b : Bool). a || b) (has_list-with_strides f i s) (some_list-with_strides f (i + size s) ss)
 
-rows_with_strides : (p : Parts) (f : ℕ → ℕ) (plain : Members) → AreShapes p.toc plain → file_rows p (all_with_strides f 0 plain) ≡ file_rows p plain
+pub rows_with_strides : (p : Parts) (f : ℕ → ℕ) (plain : Members) → AreShapes p.toc plain → file_rows p (all_with_strides f 0 plain) ≡ file_rows p plain
 rows_with_strides p f plain shapes =
     ap₂
     (λ (b : Bool) (m : Memory). if b then row_count m else 1)
@@ -430,7 +427,7 @@ rows_with_strides p f plain shapes =
     (memory_with_strides p f plain shapes.strides)
 
 -- the lists that are found, as many as there are numbers, and their bytes, which are those of the rows that are reached
-lists_found : (p : Parts) (plain : Members) → AreShapes p.toc plain → ((e : ℕ) → Broken p (Place e) → ⊥) → AreKept (ground p plain) → (length (lists_among (ground p plain) (stride_of (ground p plain)) plain 0 0) ≡ length (numbers (ground p plain))) × (sum_by bytes_held (lists_among (ground p plain) (stride_of (ground p plain)) plain 0 0) ≡ sum_by (bytes_of_row (ground p plain)) (reached (ground p plain)))
+lists_found : (p : Parts) (plain : Members) → AreShapes p.toc plain → ((e : ℕ) → Broken p (Place e) → ⊥) → AreKept (ground p plain) → (length (lists_among (ground p plain) (stride_of (ground p plain)) plain 0 0) ≡ length (numbers (ground p plain))) × (sum_by bytes_held (lists_among (ground p plain) (stride_of (ground p plain)) plain 0 0) ≡ sum_by (row_bytes (ground p plain)) (reached (ground p plain)))
 lists_found p plain shapes place kept =
     let g = ground p plain in
     let f = stride_of g in
@@ -443,15 +440,15 @@ lists_found p plain shapes place kept =
     ∙ members_total w g f plain 0 [] (subst (Each (IsFair g)) order fair)
     ∙ ap (λ ls. total (weight_of w g f) (arrays_among ls)) (sym order)
     in
-    let each : Each (λ l. weight_of bytes_held g f l ≡ total (bytes_of_row g) (reached_through g l)) (arrays_of g) =
+    let each : Each (λ l. weight_of bytes_held g f l ≡ total (row_bytes g) (reached_through g l)) (arrays_of g) =
     each_filter
-    (λ l. weight_of bytes_held g f l ≡ total (bytes_of_row g) (reached_through g l))
+    (λ l. weight_of bytes_held g f l ≡ total (row_bytes g) (reached_through g l))
     (λ l. is_array l.shape)
     (leaves p.toc plain)
     (each_both
     (IsFair g)
     (λ l. leaf_of g.leaves l.entry ≡ Some l)
-    (λ l. is_array l.shape ≡ true → weight_of bytes_held g f l ≡ total (bytes_of_row g) (reached_through g l))
+    (λ l. is_array l.shape ≡ true → weight_of bytes_held g f l ≡ total (row_bytes g) (reached_through g l))
     (λ l h found it. leaf_total g l found (h.rows it))
     (leaves p.toc plain)
     fair
@@ -463,9 +460,9 @@ lists_found p plain shapes place kept =
           ∙ total_one (numbers g),
       total_is bytes_held lists
           ∙ weights bytes_held
-          ∙ total_same (weight_of bytes_held g f) (λ l. total (bytes_of_row g) (reached_through g l)) (arrays_of g) each
-          ∙ sym (total_flat (bytes_of_row g) (reached_through g) (arrays_of g))
-          ∙ sym (total_is (bytes_of_row g) (reached g)),
+          ∙ total_same (weight_of bytes_held g f) (λ l. total (row_bytes g) (reached_through g l)) (arrays_of g) each
+          ∙ sym (total_flat (row_bytes g) (reached_through g) (arrays_of g))
+          ∙ sym (total_is (row_bytes g) (reached g)),
     )
 
 -- where none of the rules 9 and 13 to 17 is broken
@@ -482,7 +479,7 @@ start_size p plain shapes place rules =
     let found = lists_found p plain shapes place kept in
     let rows = rows_with_strides p f plain shapes in
     let many : lists_in vars ≡ length (numbers g) = lists_counted g.memory ss vars lists reads ∙ found.0 in
-    let bytes : list_bytes (Cluster ss) vars ≡ sum_by (bytes_of_row g) (reached g) = lists_sized g.memory ss vars lists reads ∙ found.1 in
+    let bytes : list_bytes (Cluster ss) vars ≡ sum_by (row_bytes g) (reached g) = lists_sized g.memory ss vars lists reads ∙ found.1 in
     ap₂ (λ (n k : ℕ). round4 p.header.static_size + round4 (10 * max n (k + 1)) + list_bytes (Cluster ss) vars) rows many
     ∙ ap (λ n. round4 p.header.static_size + round4 (10 * max (file_rows p plain) (length (numbers g) + 1)) + n) bytes
 
@@ -540,16 +537,16 @@ numbers_by_array g =
     ∙ total_every (λ l. total (λ r. 1) (numbers_of g l)) (λ l. length (numbers_of g l)) (λ l. total_one (numbers_of g l)) (arrays_of g)
     ∙ sym (total_is (λ l. length (numbers_of g l)) (arrays_of g))
 
-pub bytes_by_array : (g : Ground) → sum_by (bytes_of_row g) (reached g) ≡ sum_by (λ l. sum_by (bytes_of_row g) (reached_through g l)) (arrays_of g)
+pub bytes_by_array : (g : Ground) → sum_by (row_bytes g) (reached g) ≡ sum_by (λ l. sum_by (row_bytes g) (reached_through g l)) (arrays_of g)
 bytes_by_array g =
-    total_is (bytes_of_row g) (reached g)
-    ∙ total_flat (bytes_of_row g) (reached_through g) (arrays_of g)
+    total_is (row_bytes g) (reached g)
+    ∙ total_flat (row_bytes g) (reached_through g) (arrays_of g)
     ∙ total_every
-    (λ l. total (bytes_of_row g) (reached_through g l))
-    (λ l. sum_by (bytes_of_row g) (reached_through g l))
-    (λ l. sym (total_is (bytes_of_row g) (reached_through g l)))
+    (λ l. total (row_bytes g) (reached_through g l))
+    (λ l. sum_by (row_bytes g) (reached_through g l))
+    (λ l. sym (total_is (row_bytes g) (reached_through g l)))
     (arrays_of g)
-    ∙ sym (total_is (λ l. sum_by (bytes_of_row g) (reached_through g l)) (arrays_of g))
+    ∙ sym (total_is (λ l. sum_by (row_bytes g) (reached_through g l)) (arrays_of g))
 
 -- an entry stands once in each element around it
 pub numbers_in_places : (g : Ground) (l : Leaf) → length (numbers_of g l) ≡ length (element_places g l.arrays)
@@ -574,23 +571,19 @@ places_by_row g l rows =
 
 -- ---- and by row of the table
 
-abbrev pub sum_below : (ℕ → ℕ) → ℕ → ℕ
-sum_below w zero = 0
-sum_below w (suc n) = sum_below w n + w n
-
-below_same : (v w : ℕ → ℕ) → ((r : ℕ) → v r ≡ w r) → (n : ℕ) → sum_below v n ≡ sum_below w n
+pub below_same : (v w : ℕ → ℕ) → ((r : ℕ) → v r ≡ w r) → (n : ℕ) → sum_below v n ≡ sum_below w n
 below_same v w h zero = refl
 below_same v w h (suc n) = omega (arith, below_same v w h n, h n)
 
-below_two : (v w : ℕ → ℕ) (n : ℕ) → sum_below (λ r. v r + w r) n ≡ sum_below v n + sum_below w n
+pub below_two : (v w : ℕ → ℕ) (n : ℕ) → sum_below (λ r. v r + w r) n ≡ sum_below v n + sum_below w n
 below_two v w zero = refl
 below_two v w (suc n) = omega (arith, below_two v w n)
 
-below_none : (v : ℕ → ℕ) (n : ℕ) → ((r : ℕ) → r < n → v r ≡ 0) → sum_below v n ≡ 0
+pub below_none : (v : ℕ → ℕ) (n : ℕ) → ((r : ℕ) → r < n → v r ≡ 0) → sum_below v n ≡ 0
 below_none v zero h = refl
 below_none v (suc n) h = omega (arith, below_none v n (λ r less. h r (omega (arith, less))), h n (omega arith))
 
-abbrev only : (ℕ → ℕ) → ℕ → ℕ → ℕ
+abbrev pub only : (ℕ → ℕ) → ℕ → ℕ → ℕ
 only w x r = cond (x == r) (w r) 0
 
 below_other : (x n : ℕ) → x < suc n → (x ≡ n → ⊥) → x < n
@@ -603,7 +596,7 @@ below_other x n h other =
       ]
     ]
 
-one_below : (w : ℕ → ℕ) (x n : ℕ) → x < n → sum_below (only w x) n ≡ w x
+pub one_below : (w : ℕ → ℕ) (x n : ℕ) → x < n → sum_below (only w x) n ≡ w x
 one_below w x zero h = let f : ⊥ = omega (arith, h) in absurd f
 one_below w x (suc n) h =
     elim (cases_eq x n) [
@@ -649,7 +642,7 @@ once_below w n (x ∷ xs) once less =
     in
     omega (arith, both, below_two (only w x) others n, one_below w x n less.0, rest)
 
-reached_below : (g : Ground) → Each (λ r. r < row_count g.memory) (reached g)
+pub reached_below : (g : Ground) → Each (λ r. r < row_count g.memory) (reached g)
 reached_below g =
     each_flat
     (λ r. r < row_count g.memory)
@@ -668,27 +661,27 @@ reached_below g =
     (numbers_of g l)))
     (arrays_of g))
 
-full_bytes : (g : Ground) (r : ℕ) (any has : Bool) → has_elements g r ≡ has → cond any (bytes_of_row g r) 0 ≡ cond (any && has) (bytes_of_row g r) 0
+full_bytes : (g : Ground) (r : ℕ) (any has : Bool) → has_elements g r ≡ has → cond any (row_bytes g r) 0 ≡ cond (any && has) (row_bytes g r) 0
 full_bytes g r true true e = refl
 full_bytes g r true false e =
     ap (λ n. round4 (n * (row g r).stride)) (no_count g r e) ∙ no_bytes (row g r).stride
 full_bytes g r false has e = refl
 
 -- each row with elements that is reached counts once
-pub bytes_by_row : (g : Ground) → AreKept g → sum_by (bytes_of_row g) (reached g) ≡ sum_below (λ r. if is_full g r then bytes_of_row g r else 0) (row_count g.memory)
+pub bytes_by_row : (g : Ground) → AreKept g → sum_by (row_bytes g) (reached g) ≡ sum_below (λ r. if is_full g r then row_bytes g r else 0) (row_count g.memory)
 bytes_by_row g kept =
-    total_is (bytes_of_row g) (reached g)
-    ∙ once_below (bytes_of_row g) (row_count g.memory) (reached g) (reached_once g kept) (reached_below g)
+    total_is (row_bytes g) (reached g)
+    ∙ once_below (row_bytes g) (row_count g.memory) (reached g) (reached_once g kept) (reached_below g)
     ∙ below_same
-    (λ r. cond (list_any (is_it r) (reached g)) (bytes_of_row g r) 0)
-    (λ r. if is_full g r then bytes_of_row g r else 0)
+    (λ r. cond (list_any (is_it r) (reached g)) (row_bytes g r) 0)
+    (λ r. if is_full g r then row_bytes g r else 0)
     (λ r. full_bytes g r (list_any (is_it r) (reached g)) (has_elements g r) refl)
     (row_count g.memory)
 
 -- ---- the whole by array and by row
 
 -- the lists are counted by array, and their bytes by row of the table
-pub start_by_row : (p : Parts) (plain : Members) → AreShapes p.toc plain → KeepsRows p → start_bytes p plain ≡ round4 p.header.static_size + round4 (10 * max (file_rows p plain) (sum_by (λ l. length (numbers_of (ground p plain) l)) (arrays_of (ground p plain)) + 1)) + sum_below (λ r. if is_full (ground p plain) r then bytes_of_row (ground p plain) r else 0) (row_count (ground p plain).memory)
+pub start_by_row : (p : Parts) (plain : Members) → AreShapes p.toc plain → KeepsRows p → start_bytes p plain ≡ round4 p.header.static_size + round4 (10 * max (file_rows p plain) (sum_by (λ l. length (numbers_of (ground p plain) l)) (arrays_of (ground p plain)) + 1)) + sum_below (λ r. if is_full (ground p plain) r then row_bytes (ground p plain) r else 0) (row_count (ground p plain).memory)
 start_by_row p plain shapes rules =
     let g = ground p plain in
     let order : leaves p.toc plain ≡ leaves_among p.toc plain 0 [] = leaves_are p.toc plain (size_of_table p.toc plain shapes.spelled) in

@@ -4,12 +4,13 @@ use Rattle.std.specs.List.{list_any}
 use Rattle.nxt_types.specs.Refusals.{passes}
 use Rattle.nxt_types.specs.Shapes.{Shape, Members, Spells, some_list}
 use Rattle.nxt_types.specs.declared.shape.TocEntry.{TocEntry}
+use Rattle.nxt_rxe.specs.declared.parts.Header.{Header}
 use Rattle.nxt_rxe.specs.declared.parts.Parts.{Parts}
 use Rattle.nxt_model.specs.Values.{Value}
 use Rattle.nxt_model.specs.Footprint.{pool_size}
 use Rattle.nxt_model.specs.Reading.{row_count}
 use Rattle.nxt_layout.specs.declared.fault.LayoutFault.{LayoutFault}
-use Rattle.nxt_layout.specs.declared.fault.LayoutFault.TheVariants.{TypeCode, TypeOpen, Depth, MutexInside, Place, Overlap, DefaultsShort, Unbuilt, RowZero, RowIndex, RowShared, Stride, RowPlace, RowOverlap, PoolPassed, NoMemory}
+use Rattle.nxt_layout.specs.declared.fault.LayoutFault.TheVariants.{TypeCode, TypeOpen, Depth, MutexInside, Place, Overlap, DefaultsShort, RowZero, RowIndex, RowShared, Stride, RowPlace, RowOverlap, PoolPassed, NoMemory}
 use Rattle.nxt_layout.specs.Leaves.{Site, Leaf, sites, sites_in, voids_stand_alone, AreShapes, leaves, leaf_of, end_of, is_outside, are_together, is_mutex}
 use Rattle.nxt_layout.specs.Dataspace.{default_end}
 use Rattle.nxt_layout.specs.Rows.{Ground, row, row_end, is_placed, is_strided, numbers_of, reached_through, reached, arrays_of, is_full}
@@ -51,16 +52,17 @@ lacks_default p ls l = l.has_default && nat_lt p.header.default_size (default_en
 
 -- ---- the rows
 
--- the table of rows doesn't lie behind the static bytes
-abbrev pub lacks_table : Parts → Members → Bool
-lacks_table p ss =
-    let g = ground p ss in
-    some_list ss
-    && not (nat_le p.header.static_size p.header.dope_at
-    && nat_le (p.header.dope_at + 10) p.header.initial
+-- the table of rows lies behind the static bytes, and row 0 tells it
+abbrev pub has_table : Header → Ground → Bool
+has_table h g =
+    nat_le h.static_size h.dope_at
+    && nat_le (h.dope_at + 10) h.initial
     && ((row g 0).stride == 10)
     && nat_lt 0 (row g 0).count
-    && nat_le (p.header.dope_at + 10 * (row g 0).count) p.header.initial)
+    && nat_le (h.dope_at + 10 * (row g 0).count) h.initial
+
+abbrev pub lacks_table : Parts → Members → Bool
+lacks_table p ss = some_list ss && not (has_table p.header (ground p ss))
 
 -- a row number of the entry is past the table's rows
 abbrev pub names_no_row : Ground → Leaf → Bool
@@ -132,7 +134,6 @@ Broken p (MutexInside e) = OfShapes p (λ ss. passes is_mutex_inside (slice_get 
 Broken p (Place e) = OfShapes p (of_leaf p e (λ ls. is_misplaced p.header.static_size))
 Broken p (Overlap a b) = OfShapes p (of_leaves p a b share_a_byte)
 Broken p (DefaultsShort e) = OfShapes p (of_leaf p e (lacks_default p))
-Broken p Unbuilt = OfShapes p some_list
 Broken p RowZero = OfShapes p (lacks_table p)
 Broken p (RowIndex e) = OfShapes p (of_rows p (λ g. passes (names_no_row g) (leaf_of (arrays_of g) e)))
 Broken p (RowShared r) = OfShapes p (of_rows p (λ g. is_shared g r))
@@ -151,7 +152,6 @@ rank (MutexInside e) = 8 ∷ e ∷ []
 rank (Place e) = 9 ∷ e ∷ []
 rank (Overlap a b) = 10 ∷ a ∷ b ∷ []
 rank (DefaultsShort e) = 11 ∷ e ∷ []
-rank Unbuilt = 12 ∷ []
 rank RowZero = 12 ∷ []
 rank (RowIndex e) = 13 ∷ e ∷ []
 rank (RowShared r) = 14 ∷ r ∷ []

@@ -1,5 +1,5 @@
--- A file's layout, and the rules that are judged so far.
-use Rattle.std.specs.Prelude.{◌≡◌, ℕ, ◌+◌, ◌-◌, Bool, ◌==◌, nat_lt, List, ◌++◌, map, replicate, ◌⊎◌, Option, Some, None, if◌then◌else◌}
+-- A file's layout, and the passes that find its first fault.
+use Rattle.std.specs.Prelude.{◌≡◌, ℕ, ◌+◌, ◌-◌, ◌*◌, Bool, ◌&&◌, not, ◌==◌, nat_lt, max, List, [], ◌++◌, map, flat_map, replicate, ◌⊎◌, Option, Some, None, if◌then◌else◌}
 use Rattle.std.specs.List.{list_any}
 use Rattle.nxt_types.specs.declared.shape.TocEntry.{TocEntry}
 use Rattle.nxt_types.specs.Shapes.{Members, outline}
@@ -7,7 +7,7 @@ use Rattle.nxt_rxe.specs.declared.parts.Parts.{Parts}
 use Rattle.nxt_model.specs.Values.{Value}
 use Rattle.nxt_model.specs.Footprint.{round4, pool_size}
 use Rattle.nxt_layout.specs.declared.fault.LayoutFault.{LayoutFault}
-use Rattle.nxt_layout.specs.declared.fault.LayoutFault.TheVariants.{TypeCode, TypeOpen, Depth, MutexInside, Place, Overlap, DefaultsShort, Unbuilt, RowZero, RowIndex, RowShared, Stride, RowPlace, RowOverlap, PoolPassed, NoMemory}
+use Rattle.nxt_layout.specs.declared.fault.LayoutFault.TheVariants.{TypeCode, TypeOpen, Depth, MutexInside, Place, Overlap, DefaultsShort, RowZero, RowIndex, RowShared, Stride, RowPlace, RowOverlap, PoolPassed, NoMemory}
 use Rattle.nxt_layout.specs.declared.leaves.Leaf.{Leaf}
 use Rattle.nxt_layout.specs.Items.{first_from, open_from}
 use Rattle.nxt_layout.specs.Enclosing.{marks, is_deep, placed_entries, is_inner_mutex}
@@ -15,7 +15,10 @@ use Rattle.nxt_layout.specs.LeafPasses.{leaves_from, first_leaf, passes_end, fir
 use Rattle.nxt_layout.specs.Dataspace.{dataspace, dynamic_bytes}
 use Rattle.nxt_layout.specs.Start.{StartsAs, file_rows, start_footprint}
 use Rattle.nxt_types.specs.Refusals.{IsAccepted}
-use Rattle.nxt_layout.specs.LayoutRules.{Broken, has_unknown_code}
+use Rattle.nxt_model.specs.Reading.{row_count}
+use Rattle.nxt_layout.specs.Rows.{Ground, is_placed}
+use Rattle.nxt_layout.specs.RowPasses.{Through, bare_ground, extent_in, array_leaves, through_from, all_rows, list_count, times, least, first_beyond, first_below, misstrided_in, is_full_in, full_bytes, first_spans, spans_of}
+use Rattle.nxt_layout.specs.LayoutRules.{Broken, has_unknown_code, has_table}
 
 -- ---- layouts
 
@@ -43,21 +46,9 @@ layout_of p ss vars =
       footprint = start_footprint p ss vars;
     }
 
--- ---- rules
-
--- the rules on rows are not judged: a table that spells an array is refused before them
-abbrev pub BrokenNow : Parts → LayoutFault → Type 0
-BrokenNow p RowZero = ⊥
-BrokenNow p (RowIndex e) = ⊥
-BrokenNow p (RowShared r) = ⊥
-BrokenNow p (Stride r) = ⊥
-BrokenNow p (RowPlace r) = ⊥
-BrokenNow p (RowOverlap q r) = ⊥
-BrokenNow p fault = Broken p fault
-
--- the file is accepted by these rules, and this is its layout
+-- no rule is broken, and this is the layout
 pub record IsLayout (p : Parts) (l : FileLayout) : Type 0 where
-  pub accepted : IsAccepted (BrokenNow p)
+  pub accepted : IsAccepted (Broken p)
   pub shapes : Members
   pub vars : Value
   pub starts : StartsAs p shapes vars
@@ -78,15 +69,6 @@ leaves_of p = leaves_from 0 (placed_entries p.toc)
 
 abbrev pub spells_array : List TocEntry → Bool
 spells_array table = list_any (λ e. e.code == 7) table
-
--- what the start needs where no variable is a list: the static bytes, and one row
-abbrev pub plain_footprint : Parts → ℕ
-plain_footprint p = round4 p.header.static_size + 12
-
-abbrev pub pool_fault : Parts → Option LayoutFault
-pool_fault p =
-    if spells_array p.toc then Some Unbuilt
-    else (if nat_lt pool_size (plain_footprint p) then Some (PoolPassed (plain_footprint p)) else None)
 
 abbrev pub leaf_fault : Parts → Option LayoutFault
 leaf_fault p =
@@ -120,3 +102,53 @@ bytes_of_parts p =
     filled_from p.defaults 0 (leaves_of p) (replicate p.header.static_size 0)
     ++ dynamic_bytes p
     ++ replicate (p.header.initial - (p.header.static_size + p.header.dyn_size)) 0
+
+-- ---- rows
+
+abbrev pub ground_in : Parts → Ground
+ground_in p = bare_ground (bytes_of_parts p) p.header.dope_at p.header.static_size
+
+-- what is found through the arrays
+abbrev pub arrays_in : Parts → List Through
+arrays_in p = through_from (ground_in p) (extent_in (leaves_of p)) [] (array_leaves (leaves_of p))
+
+abbrev pub overlap_fault : Option (ℕ × ℕ) → Option LayoutFault
+overlap_fault None = None
+overlap_fault (Some o) = Some (RowOverlap o.0 o.1)
+
+abbrev pub rows_fault : Ground → List Through → Option LayoutFault
+rows_fault g ts =
+    let rows = all_rows ts in
+    fault_or
+    RowIndex
+    (first_beyond ts)
+    (fault_or
+    RowShared
+    (first_below (λ r. nat_lt 1 (times r rows)) 0 (row_count g.memory))
+    (fault_or
+    Stride
+    (least (flat_map (misstrided_in g) ts))
+    (fault_or
+    RowPlace
+    (first_below (λ r. is_full_in g rows r && not (is_placed g r)) 0 (row_count g.memory))
+    (overlap_fault (first_spans (spans_of g (is_full_in g rows)))))))
+
+abbrev pub row_fault : Parts → Option LayoutFault
+row_fault p =
+    if spells_array p.toc && not (has_table p.header (ground_in p)) then Some RowZero
+    else rows_fault (ground_in p) (arrays_in p)
+
+-- ---- the pool
+
+abbrev pub rows_in_file : Parts → ℕ
+rows_in_file p = if spells_array p.toc then row_count (ground_in p).memory else 1
+
+-- the bytes that the start needs, by array and by row of the table
+abbrev pub size_of_start : Parts → ℕ
+size_of_start p =
+    round4 p.header.static_size
+    + round4 (10 * max (rows_in_file p) (list_count (arrays_in p) + 1))
+    + full_bytes (ground_in p) (is_full_in (ground_in p) (all_rows (arrays_in p)))
+
+abbrev pub pool_fault : Parts → Option LayoutFault
+pool_fault p = if nat_lt pool_size (size_of_start p) then Some (PoolPassed (size_of_start p)) else None

@@ -6,6 +6,7 @@ pub mod LeafPasses
 pub mod Owners
 pub mod Shaping
 pub mod Rows
+pub mod RowPasses
 pub mod Start
 pub mod LayoutRules
 pub mod Layouts

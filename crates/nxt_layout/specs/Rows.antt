@@ -27,12 +27,16 @@ abbrev pub is_placed : Ground → ℕ → Bool
 is_placed g r =
     not (has_elements g r) || (nat_le g.static_size (row g r).place && nat_le (row_end g r) (length g.memory.bytes))
 
--- of rows that are reached through the array of entry a, this one's stride holds an element and is that of each lesser one
-abbrev pub is_strided : Ground → ℕ → List ℕ → ℕ → Bool
-is_strided g a rows r =
+-- of these rows this one's stride holds an element of so many bytes, and is that of each lesser one
+abbrev pub is_strided_by : Ground → ℕ → List ℕ → ℕ → Bool
+is_strided_by g bytes rows r =
     not (has_elements g r)
-    || (nat_le (extent g.leaves a) (row g r).stride
+    || (nat_le bytes (row g r).stride
     && list_all (λ q. not (nat_lt q r && has_elements g q) || ((row g q).stride == (row g r).stride)) rows)
+
+-- of rows that are reached through the array of entry a, by the extent of its element
+abbrev pub is_strided : Ground → ℕ → List ℕ → ℕ → Bool
+is_strided g a rows r = is_strided_by g (extent g.leaves a) rows r
 
 -- the places of a row's elements
 abbrev pub places_from : ℕ → ℕ → ℕ → List ℕ
@@ -52,9 +56,13 @@ names_row g r = nat_lt 0 r && nat_lt r (row_count g.memory)
 abbrev pub numbers_at : Ground → ℕ → List ℕ → List ℕ
 numbers_at g a places = map (λ base. u16_in g.memory.bytes (leaf_place g.memory a base)) places
 
--- the rows whose elements are read, of those that are reached through entry a
+-- the rows whose elements, of so many bytes, are read
+abbrev pub read_by : Ground → ℕ → List ℕ → List ℕ
+read_by g bytes rows = filter (λ r. is_placed g r && is_strided_by g bytes rows r) rows
+
+-- of those that are reached through entry a
 abbrev pub read_rows : Ground → ℕ → List ℕ → List ℕ
-read_rows g a rows = filter (λ r. is_placed g r && is_strided g a rows r) rows
+read_rows g a rows = read_by g (extent g.leaves a) rows
 
 -- where elements stand that are read through the first of these arrays, each of which encloses the one before it.
 -- What is outside counts as one element at 0

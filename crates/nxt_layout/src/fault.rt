@@ -25,8 +25,6 @@ pub enum LayoutFault {
     Overlap(u32, u32),
     /// The entry of a leaf whose default ends past the default data.
     DefaultsShort(u32),
-    /// No rule up to the defaults is broken, and the table spells an array, whose rows aren't judged yet.
-    Unbuilt,
     /// The table of rows doesn't lie behind the static bytes in the dataspace, or row 0 doesn't tell it.
     RowZero,
     /// The entry of an array that names a row past the table of rows.

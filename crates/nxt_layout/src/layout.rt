@@ -1,21 +1,28 @@
 // The layout of a file's data.
 
-ghost use Rattle.std.specs.Prelude.{◌≡◌, ◌<◌, ◌≤◌, ◌^◌, length, map, IfOk, IfErr, OnOk, None, Some, IsTrue, ◌⊎◌};
+ghost use Rattle.std.specs.Prelude.{◌≡◌, ◌<◌, ◌≤◌, ◌^◌, length, map, slice_index, All, IfOk, IfErr, OnOk, None, Some, IsTrue, ◌⊎◌};
 ghost use Rattle.nxt_types.specs.Shapes.{Members};
 ghost use Rattle.nxt_types.specs.Refusals.{IsRefusal};
 ghost use Rattle.nxt_model.specs.Footprint.{round4 as rounded};
 ghost use Rattle.nxt_rxe.specs.Files.{HasCounts};
 ghost use Rattle.nxt_layout.specs.Leaves.{AreShapes};
-ghost use Rattle.nxt_layout.specs.LayoutRules.{rank};
+ghost use Rattle.nxt_layout.specs.Start.{all_with_strides};
+ghost use Rattle.nxt_layout.specs.LayoutRules.{rank, Broken};
+ghost use Rattle.nxt_layout.specs.RowPasses.{ground_of, through, all_rows, IsMarked};
 ghost use Rattle.nxt_layout.specs.declared.fault.LayoutFault.TheVariants.{NoMemory as no_memory};
 ghost use Rattle.nxt_layout.specs.Dataspace.{dynamic_bytes};
 ghost use Rattle.nxt_layout.specs.Enclosing.{placed_entries as entries_placed};
-ghost use Rattle.nxt_layout.specs.Layouts.{IsLayout, BrokenNow, IsFound, table_fault, leaf_fault, pool_fault, leaves_of as leaves_in, spells_array as has_array_entry, plain_footprint, bytes_of_parts};
+ghost use Rattle.nxt_layout.specs.Layouts.{IsLayout, IsFound, table_fault, leaf_fault, row_fault, pool_fault, leaves_of as leaves_in, ground_in, arrays_in, spells_array as has_array_entry, rows_in_file, size_of_start};
 
+use crate::dataspace::Dataspace;
 use crate::enclosing::{Placed, inner_mutex, placed_entries};
 use crate::fault::LayoutFault;
 use crate::leaves::{Leaf, fill, lacking_default, leaves_of, misplaced};
 use crate::overlap::overlap;
+use crate::reach::ArrayRows;
+use crate::rows::{
+    check_rows, found_arrays, full_bytes, has_table, lists_of, marks_of, strides_of,
+};
 use crate::shapes::outside_shapes;
 use crate::table::{open_variable, unknown_code};
 use nxt_rxe::parts::Parts;
@@ -27,10 +34,7 @@ use std::alloc::Global;
 use std::marker::Model;
 
 /// The bytes of the pool.
-const POOL_BYTES: u32 = 32_768;
-
-/// The bytes of a table of one row, rounded up to a multiple of 4.
-const ONE_ROW_BYTES: u32 = 12;
+const POOL_BYTES: u64 = 32_768;
 
 /// The table of an accepted file with its shapes, and the dataspace with which its program starts.
 #[derive(Drop)]
@@ -57,26 +61,28 @@ impl Model for Layout {
 }
 
 /// The layout of a file's variables, or the first broken rule of its table and data at its least place
-/// (Executable File Specification, "Dataspace Table of Contents", "Default Values").
-/// A table that spells an array is refused after rule 11.
+/// (Executable File Specification, "Dataspace Table of Contents", "Default Values", "Dope Vectors").
 pub fn check_layout(alloc: Global, parts: &Parts) -> Result<Layout, LayoutFault>
     ensures found { HasCounts parts.now → IfOk result (IsLayout parts.now) }
-    ensures refused { HasCounts parts.now → IfErr result (λ fault. (fault ≡ no_memory) ⊎ IsRefusal (BrokenNow parts.now) rank fault) }
+    ensures refused { HasCounts parts.now → IfErr result (λ fault. (fault ≡ no_memory) ⊎ IsRefusal (Broken parts.now) rank fault) }
 {
     if !has_counts(parts) {
         return Err(LayoutFault::TypeOpen(0));
     }
     let placed = check_table(alloc, parts)?;
     let leaves = check_leaves(alloc, parts, placed.as_slice())?;
-    let footprint = check_pool(parts)?;
-    let toc = toc_of(alloc, parts, placed.as_slice())?;
-    let bytes = dataspace_of(alloc, parts, leaves.as_slice())?;
+    let space = dataspace_of(alloc, parts, leaves.as_slice())?;
+    let arrays = check_arrays(alloc, parts, &space, leaves.as_slice())?;
+    let footprint = check_pool(parts, &space, &arrays)?;
+    let strides = strides_of(alloc, &space, arrays.found.as_slice(), parts.toc.len())?;
+    let toc = toc_of(alloc, parts, placed.as_slice(), strides.as_slice())?;
+    let file_rows = file_rows(parts, &space);
     Ok(Layout {
         toc,
-        bytes,
+        bytes: space.bytes,
         static_size: parts.header.static_size,
         dope_at: parts.header.dope_at,
-        file_rows: 1,
+        file_rows,
         footprint,
     })
 }
@@ -161,6 +167,7 @@ fn check_leaves(alloc: Global, parts: &Parts, placed: &[Placed]) -> Result<Vec<L
     requires placed { placed.now ≡ entries_placed parts.now.toc }
     ensures found { IfOk result (λ ls. (ls.items ≡ leaves_in parts.now) × (leaf_fault parts.now ≡ None)) }
     ensures refused { IfErr result (IsFound (leaf_fault parts.now)) }
+    ensures places { IfOk result (λ ls. All (λ l. l.place < 2 ^ 16) ls.items) }
 {
     let leaves = leaves_of(alloc, placed)?;
     if let Some(entry) = misplaced(leaves.as_slice(), parts.header.static_size) {
@@ -176,12 +183,11 @@ fn check_leaves(alloc: Global, parts: &Parts, placed: &[Placed]) -> Result<Vec<L
 }
 
 // The bytes of the dataspace at the start: the defaults, the dynamic defaults, and zeros.
-fn dataspace_of(alloc: Global, parts: &Parts, leaves: &[Leaf]) -> Result<Vec<u8>, NoMemory>
+fn dataspace_of(alloc: Global, parts: &Parts, leaves: &[Leaf]) -> Result<Dataspace, NoMemory>
     requires leaves { leaves.now ≡ leaves_in parts.now }
     requires right { leaf_fault parts.now ≡ None }
     requires defaults { parts.now.header.default_size ≤ length parts.now.defaults }
-    ensures bytes { IfOk result (λ bytes. bytes.items ≡ bytes_of_parts parts.now) }
-    ensures enough { IfOk result (λ bytes. parts.now.header.static_size ≤ length bytes.items) }
+    ensures { IfOk result (λ space. ground_of space ≡ ground_in parts.now) }
 {
     let static_size = usize::from(parts.header.static_size);
     let dyn_size = usize::from(parts.header.dyn_size);
@@ -191,7 +197,11 @@ fn dataspace_of(alloc: Global, parts: &Parts, leaves: &[Leaf]) -> Result<Vec<u8>
     bytes.extend_from_slice(dynamic_defaults(parts))?;
     let end = bytes.len();
     bytes.resize(end + initial.saturating_sub(static_size + dyn_size), 0)?;
-    Ok(bytes)
+    Ok(Dataspace {
+        bytes,
+        table: parts.header.dope_at,
+        static_size: parts.header.static_size,
+    })
 }
 
 // The bytes that stand behind the static bytes.
@@ -206,32 +216,85 @@ fn dynamic_defaults(parts: &Parts) -> &[u8]
     &defaults[start..end]
 }
 
-// The table with the shapes of its variables.
-fn toc_of(alloc: Global, parts: &Parts, placed: &[Placed]) -> Result<Toc, NoMemory>
+// The table with the shapes of its variables, by the entries' strides.
+fn toc_of(alloc: Global, parts: &Parts, placed: &[Placed], strides: &[u32]) -> Result<Toc, NoMemory>
     requires count { length parts.now.toc < 2 ^ 16 }
     requires placed { placed.now ≡ entries_placed parts.now.toc }
+    requires strides { length strides.now ≡ length placed.now }
     requires right { table_fault parts.now ≡ None }
-    ensures { IfOk result (λ toc. (ss : Members) → AreShapes parts.now.toc ss → toc ≡ record { entries = parts.now.toc; shapes = ss }) }
+    ensures { IfOk result (λ toc. (ss : Members) → AreShapes parts.now.toc ss → toc ≡ record { entries = parts.now.toc; shapes = all_with_strides (slice_index strides.now) 0 ss }) }
 {
     let mut entries = Entries::new(alloc);
     entries.append(parts.toc.as_slice())?;
-    let shapes = outside_shapes(alloc, placed)?;
+    let shapes = outside_shapes(alloc, placed, strides)?;
     Ok(Toc::new(entries, shapes))
 }
 
+/// What is found through each array of a table, and how often each row of the file's table is named.
+#[derive(Drop)]
+struct Arrays {
+    found: Vec<ArrayRows>,
+    marks: Vec<u8>,
+}
+
+// The arrays of a file that keeps the rules on rows.
+fn check_arrays(
+    alloc: Global,
+    parts: &Parts,
+    space: &Dataspace,
+    leaves: &[Leaf],
+) -> Result<Arrays, LayoutFault>
+    requires leaves { leaves.now ≡ leaves_in parts.now }
+    requires places { All (λ l. l.place < 2 ^ 16) leaves.now }
+    requires count { length parts.now.toc < 2 ^ 16 }
+    requires space { ground_of space.now ≡ ground_in parts.now }
+    ensures found { IfOk result (λ a. map through a.found.items ≡ arrays_in parts.now) }
+    ensures marks { IfOk result (λ a. IsMarked (ground_in parts.now) (all_rows (arrays_in parts.now)) a.marks.items) }
+    ensures lists { IfOk result (λ a. All (λ x. x.lists ≤ 2 ^ 33) a.found.items) }
+    ensures count { IfOk result (λ a. length a.found.items ≤ 2 ^ 16) }
+    ensures kept { IfOk result (λ _. row_fault parts.now ≡ None) }
+    ensures refused { IfErr result (IsFound (row_fault parts.now)) }
+{
+    if spells_array(parts.toc.as_slice()) && !has_table(&parts.header, space) {
+        return Err(LayoutFault::RowZero);
+    }
+    let found = found_arrays(alloc, space, leaves, parts.toc.len())?;
+    let marks = marks_of(alloc, space, found.as_slice())?;
+    check_rows(alloc, space, found.as_slice(), marks.as_slice())?;
+    Ok(Arrays { found, marks })
+}
+
 // The bytes of the pool that the start needs.
-fn check_pool(parts: &Parts) -> Result<u32, LayoutFault>
-    ensures found { IfOk result (λ size. (size ≡ plain_footprint parts.now) × (pool_fault parts.now ≡ None)) }
+fn check_pool(parts: &Parts, space: &Dataspace, arrays: &Arrays) -> Result<u32, LayoutFault>
+    requires space { ground_of space.now ≡ ground_in parts.now }
+    requires found { map through arrays.now.found.items ≡ arrays_in parts.now }
+    requires marks { IsMarked (ground_in parts.now) (all_rows (arrays_in parts.now)) arrays.now.marks.items }
+    requires lists { All (λ x. x.lists ≤ 2 ^ 33) arrays.now.found.items }
+    requires count { length arrays.now.found.items ≤ 2 ^ 16 }
+    ensures found { IfOk result (λ size. (size ≡ size_of_start parts.now) × (pool_fault parts.now ≡ None)) }
     ensures refused { IfErr result (λ fault. pool_fault parts.now ≡ Some fault) }
 {
+    let rows = u64::from(file_rows(parts, space));
+    let lists = lists_of(arrays.found.as_slice());
+    let bytes = full_bytes(space, arrays.marks.as_slice());
+    let size = round4(u64::from(parts.header.static_size))
+        + round4(10 * rows.max(lists + 1))
+        + bytes;
+    if size > POOL_BYTES {
+        return Err(LayoutFault::PoolPassed(size));
+    }
+    Ok(size as u32)
+}
+
+fn file_rows(parts: &Parts, space: &Dataspace) -> u16
+    requires { ground_of space.now ≡ ground_in parts.now }
+    ensures { result ≡ rows_in_file parts.now }
+{
     if spells_array(parts.toc.as_slice()) {
-        return Err(LayoutFault::Unbuilt);
+        space.rows()
+    } else {
+        1
     }
-    let footprint = round4(u32::from(parts.header.static_size)) + ONE_ROW_BYTES;
-    if footprint > POOL_BYTES {
-        return Err(LayoutFault::PoolPassed(u64::from(footprint)));
-    }
-    Ok(footprint)
 }
 
 fn spells_array(entries: &[TocEntry]) -> bool
@@ -241,8 +304,8 @@ fn spells_array(entries: &[TocEntry]) -> bool
 }
 
 // The least multiple of 4 that is at least n.
-fn round4(n: u32) -> u32
-    requires { n < 2 ^ 16 }
+fn round4(n: u64) -> u64
+    requires { n < 2 ^ 63 }
     ensures { result ≡ rounded n }
 {
     (n + 3) / 4 * 4

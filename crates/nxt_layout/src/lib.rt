@@ -2,13 +2,19 @@
 //! Executable File Specification", "Dataspace Table of Contents", "Default Values").
 #![tactic(auto)]
 
+mod dataspace;
 mod enclosing;
 pub mod fault;
 mod item;
 pub mod layout;
 mod leaves;
+mod names;
 mod overlap;
+mod reach;
+mod rows;
 mod shapes;
+mod spans;
+mod strides;
 mod table;
 
 pub use fault::LayoutFault;

@@ -1,6 +1,6 @@
 // The shapes that a table spells.
 
-ghost use Rattle.std.specs.Prelude.{◌≡◌, ◌++◌, map, reverse, take, drop, option_map, IfOk, OnOk};
+ghost use Rattle.std.specs.Prelude.{◌≡◌, ◌++◌, map, reverse, take, drop, length, slice_index, option_map, IfOk, OnOk};
 ghost use Rattle.nxt_types.specs.Shapes.{outline, tree};
 ghost use Rattle.nxt_types.specs.Tables.{trees_of};
 ghost use Rattle.nxt_layout.specs.Items.{item};
@@ -14,9 +14,14 @@ use nxt_types::toc::copy_of;
 use std::alloc::Global;
 use std::collections::VecDeque;
 
-/// The shape at each entry that stands in no array's element.
-pub fn outside_shapes(alloc: Global, placed: &[Placed]) -> Result<Vec<Option<Shape>>, NoMemory>
-    ensures { IfOk result (λ shapes. trees_of shapes.items ≡ shapes_outside placed.now) }
+/// The shape at each entry that stands in no array's element, by the entries' strides.
+pub fn outside_shapes(
+    alloc: Global,
+    placed: &[Placed],
+    strides: &[u32],
+) -> Result<Vec<Option<Shape>>, NoMemory>
+    requires { length strides.now ≡ length placed.now }
+    ensures { IfOk result (λ shapes. trees_of shapes.items ≡ shapes_outside (slice_index strides.now) 0 placed.now) }
 {
     let mut stack: VecDeque<Shape> = VecDeque::new(alloc);
     let mut shapes: Vec<Option<Shape>> = Vec::new(alloc);
@@ -24,7 +29,7 @@ pub fn outside_shapes(alloc: Global, placed: &[Placed]) -> Result<Vec<Option<Sha
     while left > 0 {
         left -= 1;
         let place = placed[left];
-        stack_item(alloc, &mut stack, item_of(&place.entry))?;
+        stack_item(alloc, &mut stack, strides[left], item_of(&place.entry))?;
         let shape = if place.array.is_none() {
             copy_of_first(alloc, &stack)?
         } else {
@@ -45,20 +50,21 @@ fn copy_of_first(alloc: Global, stack: &VecDeque<Shape>) -> Result<Option<Shape>
     }
 }
 
-// Puts the shape of an item in front, made of those behind it.
+// Puts the shape of an item in front, made of those behind it. An array gets this stride.
 fn stack_item(
     alloc: Global,
     stack: &mut VecDeque<Shape>,
+    stride: u32,
     item: Option<Item>,
 ) -> Result<(), NoMemory>
-    ensures { OnOk result (map tree stack.new.items ≡ stacked item (map tree stack.old.items)) }
+    ensures { OnOk result (map tree stack.new.items ≡ stacked stride item (map tree stack.old.items)) }
 {
     let shape = match item {
         None => return Ok(()),
         Some(Item::Void) => Shape::Void,
         Some(Item::Number(kind)) => Shape::Num(kind),
         Some(Item::Array) => match stack.pop_front() {
-            Some(element) => Shape::list(alloc, 0, element)?,
+            Some(element) => Shape::list(alloc, stride, element)?,
             None => return Ok(()),
         },
         Some(Item::Cluster(members)) => Shape::group(take_first(alloc, stack, members)?),

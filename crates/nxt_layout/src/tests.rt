@@ -6,6 +6,8 @@ use nxt_types::shape::TocEntry;
 use std::alloc::Global;
 use std::test::Fail;
 
+mod rows;
+
 const VOID: u8 = 0;
 
 const UBYTE: u8 = 1;
@@ -124,7 +126,7 @@ fn types_at_their_edges(rt: HostRuntime) -> Result<(), Fail> {
     );
     assert_eq!(rt;
         fault_of(alloc, &[(ARRAY, 0, 0), (UBYTE, 0, 0)], 2, 2)?,
-        Some(LayoutFault::Unbuilt)
+        Some(LayoutFault::RowZero)
     );
     Ok(())
 }

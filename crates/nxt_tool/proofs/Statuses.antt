@@ -8,9 +8,10 @@ use Rattle.nxt_edge.specs.declared.all.ReadAllFault.{ReadAllFault}
 use Rattle.nxt_edge.specs.declared.all.ReadAllFault.TheVariants.{Failed, TooLarge, NoMemory}
 use Rattle.nxt_edge.proofs.Known.{Appends-none}
 use Rattle.nxt_model.specs.Image.{Image}
-use Rattle.nxt_tool.specs.Due.{Answer, answer, Meets, RunOn, answer_to, answer_given, read_status, write_status, refused_answer, OfFile, Run, Due, Answers}
-use Rattle.nxt_tool.specs.Words.{is_run}
-use Rattle.nxt_tool.specs.Accepted.{BreaksNone, IsAcceptedAs, IsRefused, code_in}
+use Rattle.nxt_tool.specs.Due.{Answer, answer, Meets, RunOn, answer_to, answer_given, read_status, write_status, refused_answer, sound_answer, OfFile, Run, CheckFile, CheckOf, DueTo, Due, Answers}
+use Rattle.nxt_tool.specs.declared.words.Command.{Command}
+use Rattle.nxt_tool.specs.Words.{command_of}
+use Rattle.nxt_tool.specs.Accepted.{BreaksNone, IsSound, IsSoundFile, IsAcceptedAs, IsRefused, BreaksRule, code_in}
 use Rattle.nxt_tool.specs.FirstFile.{image_in}
 use Rattle.nxt_tool.specs.declared.accept.Refusal.{Refusal}
 use Rattle.nxt_tool.specs.declared.accept.Refusal.TheVariants as refusals
@@ -22,8 +23,12 @@ use Rattle.nxt_rxe.specs.FileRules.{Broken, rank}
 use Rattle.nxt_rxe.proofs.Decided.{file_or_refusal}
 use Rattle.nxt_layout.specs.declared.fault.LayoutFault.{LayoutFault}
 use Rattle.nxt_layout.specs.LayoutRules as layout_rules
-use Rattle.nxt_layout.specs.Layouts.{BrokenNow}
-use Rattle.nxt_layout.specs.Start.{HasShapes}
+use Rattle.nxt_layout.specs.declared.fault.LayoutFault.TheVariants.{Place, RowIndex, RowShared, Stride, RowPlace, RowOverlap}
+use Rattle.nxt_layout.specs.Start.{ground, HasShapes, StartsAs, start_footprint}
+use Rattle.nxt_layout.proofs.Found.{values_among}
+use Rattle.nxt_layout.proofs.RulesKept.{KeepsRows}
+use Rattle.nxt_layout.proofs.StartSize.{found_start}
+use Rattle.nxt_model.specs.Values.{Value, group_of}
 use Rattle.nxt_layout.proofs.Decided.{layout_or_refusal}
 use Rattle.nxt_code.specs.declared.fault.CodeFault.{CodeFault}
 use Rattle.nxt_code.specs.CodeRules as code_rules
@@ -55,6 +60,10 @@ read_failed TooLarge d w long = (sym (ap (λ (x : Answer). x.status) (long refl)
 -- a known list is too long
 pub long_list : (left : Option (List ℕ)) (s : List ℕ) (limit : ℕ) → left ≡ Some s → IfSome left (λ l. limit < length l) → nat_lt limit (length s) ≡ true
 long_list left s limit e long = let h : limit < length s = subst (λ (o : Option (List ℕ)). IfSome o (λ l. limit < length l)) e long in grind (arith, nat_tests)
+
+-- the bytes that were read are those that the source had
+pub read_is : (left : Option (List ℕ)) (b bytes : List ℕ) → left ≡ Some b → IfSome left (λ l. bytes ≡ l) → bytes ≡ b
+read_is left b bytes e h = subst (λ (o : Option (List ℕ)). IfSome o (λ l. bytes ≡ l)) e h
 
 pub long_script : (image : Image) (left : Option (List ℕ)) (s : List ℕ) → left ≡ Some s → IfSome left (λ l. 16777216 < length l) → answer_to image s ≡ answer status.TooLarge [] []
 long_script image left s e long = rw (long_list left s 16777216 e long) refl
@@ -123,14 +132,14 @@ by_image program script p ss None file sound e = (refused_answer refusals.Unbuil
 by_image program script p ss (Some image) file sound e =
     (answer_to image script, inr (image, record { parts = p; file = file; shapes = ss; sound = sound; image_is = e }, run_on image script))
 
-by_code : (program script : List ℕ) (p : Parts) (ss : Members) → IsFile program p → IsAccepted (BrokenNow p) → HasShapes p ss →
+by_code : (program script : List ℕ) (p : Parts) (ss : Members) → IsFile program p → IsAccepted (layout_rules.Broken p) → HasShapes p ss →
     ((f : CodeFault) × IsRefusal (code_rules.Broken (code_in p ss)) code_rules.rank f) ⊎ IsAccepted (code_rules.Broken (code_in p ss)) → OnProgram program script
 by_code program script p ss file layout shapes (inl found) =
     (refused_answer (refusals.Code found.0), inl (refusals.Code found.0, (p, file, (layout, ss, shapes, found.1)), refl))
 by_code program script p ss file layout shapes (inr code) =
     by_image program script p ss (image_in p) file (record { layout = layout; shapes = shapes; code = code }) refl
 
-by_layout : (program script : List ℕ) (p : Parts) → IsFile program p → ((f : LayoutFault) × IsRefusal (BrokenNow p) layout_rules.rank f) ⊎ (IsAccepted (BrokenNow p) × (ss : Members) × HasShapes p ss) → OnProgram program script
+by_layout : (program script : List ℕ) (p : Parts) → IsFile program p → ((f : LayoutFault) × IsRefusal (layout_rules.Broken p) layout_rules.rank f) ⊎ (IsAccepted (layout_rules.Broken p) × (ss : Members) × HasShapes p ss) → OnProgram program script
 by_layout program script p file (inl found) = (refused_answer (refusals.Layout found.0), inl (refusals.Layout found.0, (p, file, found.1), refl))
 by_layout program script p file (inr found) = by_code program script p found.1 file found.0 found.2 (code_or_refusal (code_in p found.1))
 
@@ -179,23 +188,86 @@ no_image_by false program script a due = no_image_of program script a due
 pub no_image : (program script : List ℕ) (a : Answer) → Run program script a → a.image ≡ []
 no_image program script a due = no_image_by (nat_lt 262144 (length program)) program script a due
 
+-- ---- checks
+
+-- the line of a program that breaks a rule is due
+pub refused_check : (program : List ℕ) (r : Refusal) → length program ≤ 262144 → BreaksRule program r → CheckOf program (refused_answer r)
+refused_check program r few broken =
+    within_by (nat_lt 262144 (length program)) (refused_answer r) _ (short_program program few) (inl (r, broken, refl))
+
+-- and so is that of a sound one
+pub sound_check : (program : List ℕ) (size : ℕ) → length program ≤ 262144 → IsSoundFile program size → CheckOf program (sound_answer size)
+sound_check program size few sound =
+    within_by (nat_lt 262144 (length program)) (sound_answer size) _ (short_program program few) (inr (size, sound, refl))
+
+-- the variables of an accepted file start with some values
+some_start : (p : Parts) (ss : Members) → IsAccepted (layout_rules.Broken p) → HasShapes p ss → (vars : Value) × StartsAs p ss vars
+some_start p ss accepted h =
+    let rules : KeepsRows p = record {
+      index = λ e. accepted (RowIndex e);
+      shared = λ r. accepted (RowShared r);
+      stride = λ r. accepted (Stride r);
+      placed = λ r. accepted (RowPlace r);
+      apart = λ q r. accepted (RowOverlap q r);
+    } in
+    let vars = group_of (values_among (ground p h.plain) h.plain 0 0) in
+    (vars, subst (λ qs. StartsAs p qs vars) (sym h.strides) (found_start p h.plain h.shapes (λ e. accepted (Place e)) rules))
+
+check_code : (program : List ℕ) (p : Parts) (ss : Members) → IsFile program p → IsAccepted (layout_rules.Broken p) → HasShapes p ss →
+    ((f : CodeFault) × IsRefusal (code_rules.Broken (code_in p ss)) code_rules.rank f) ⊎ IsAccepted (code_rules.Broken (code_in p ss)) → (a : Answer) × CheckFile program a
+check_code program p ss file layout shapes (inl found) =
+    (refused_answer (refusals.Code found.0), inl (refusals.Code found.0, (p, file, (layout, ss, shapes, found.1)), refl))
+check_code program p ss file layout shapes (inr code) =
+    let start = some_start p ss layout shapes in
+    let size = start_footprint p ss start.0 in
+    let sound : IsSound p size = record { shapes = ss; sound = record { layout = layout; shapes = shapes; code = code }; vars = start.0; starts = start.1; size_is = refl } in
+    (sound_answer size, inr (size, (p, file, sound), refl))
+
+check_layout : (program : List ℕ) (p : Parts) → IsFile program p → ((f : LayoutFault) × IsRefusal (layout_rules.Broken p) layout_rules.rank f) ⊎ (IsAccepted (layout_rules.Broken p) × (ss : Members) × HasShapes p ss) → (a : Answer) × CheckFile program a
+check_layout program p file (inl found) = (refused_answer (refusals.Layout found.0), inl (refusals.Layout found.0, (p, file, found.1), refl))
+check_layout program p file (inr found) = check_code program p found.1 file found.0 found.2 (code_or_refusal (code_in p found.1))
+
+check_sections : (program : List ℕ) → ((f : RxeFault) × IsRefusal (Broken program) rank f) ⊎ ((p : Parts) × IsFile program p) → (a : Answer) × CheckFile program a
+check_sections program (inl found) = (refused_answer (refusals.Sections found.0), inl (refusals.Sections found.0, found.1, refl))
+check_sections program (inr found) =
+    let whole = found.1.counts.defaults in
+    check_layout program found.0 found.1 (layout_or_refusal found.0 (omega (arith, whole)))
+
+check_length : (long : Bool) (program : List ℕ) → AreBytes program → (a : Answer) × MatchBool long (a ≡ answer status.TooLarge [] []) (CheckFile program a)
+check_length true program bytes = (answer status.TooLarge [] [], refl)
+check_length false program bytes = check_sections program (file_or_refusal program bytes)
+
+-- some answer is due to every program
+some_check : (program : List ℕ) → AreBytes program → (a : Answer) × CheckOf program a
+some_check program bytes = check_length (nat_lt 262144 (length program)) program bytes
+
+-- nothing is written where a program isn't read to its end
+pub unread_check : (fault : ReadAllFault) (program : List ℕ) (w : Option (List ℕ)) → AreBytes program → (fault ≡ TooLarge → nat_lt 262144 (length program) ≡ true) →
+    (a : Answer) × CheckOf program a × Meets (read_status fault) a w w
+unread_check Failed program w bytes long = let due = some_check program bytes in (due.0, due.1, nothing_yet w due.0.report)
+unread_check NoMemory program w bytes long = let due = some_check program bytes in (due.0, due.1, nothing_yet w due.0.report)
+unread_check TooLarge program w bytes long = (answer status.TooLarge [] [], too_large (nat_lt 262144 (length program)) _ (long refl), (refl, Appends-none w))
+
+pub no_memory_check : (program : List ℕ) (w : Option (List ℕ)) → AreBytes program → (a : Answer) × CheckOf program a × Meets status.NoMemory a w w
+no_memory_check program w bytes = let due = some_check program bytes in (due.0, due.1, nothing_yet w due.0.report)
+
+-- no image text is due to a check
+no_image_checked : (program : List ℕ) (a : Answer) → CheckFile program a → a.image ≡ []
+no_image_checked program a (inl refused) = ap (λ (x : Answer). x.image) refused.2
+no_image_checked program a (inr sound) = ap (λ (x : Answer). x.image) sound.2
+
+no_image_within : (long : Bool) (program : List ℕ) (a : Answer) → MatchBool long (a ≡ answer status.TooLarge [] []) (CheckFile program a) → a.image ≡ []
+no_image_within true program a due = ap (λ (x : Answer). x.image) due
+no_image_within false program a due = no_image_checked program a due
+
+pub no_image_check : (program : List ℕ) (a : Answer) → CheckOf program a → a.image ≡ []
+no_image_check program a due = no_image_within (nat_lt 262144 (length program)) program a due
+
 -- ---- commands
 
-by_form : (run : Bool) (x y : Type 0) → run ≡ true → x → MatchBool run x y
-by_form true x y e h = h
-by_form false x y e h = absurd (let f : ⊥ = cc in f)
-
-by_no_form : (run : Bool) (x y : Type 0) → run ≡ false → y → MatchBool run x y
-by_no_form false x y e h = h
-by_no_form true x y e h = absurd (let f : ⊥ = cc in f)
-
--- what is due to a run is due to its words
-pub due_to_run : (words : List (List ℕ)) (program script : List ℕ) (a : Answer) → is_run words ≡ true → Run program script a → Due words program script a
-due_to_run words program script a form due = by_form (is_run words) _ _ form due
-
--- nothing is due to words of no form
-pub due_to_others : (words : List (List ℕ)) (program script : List ℕ) → is_run words ≡ false → Due words program script (answer status.Words [] [])
-due_to_others words program script form = by_no_form (is_run words) _ _ form refl
+-- what is due to a command is due to its words
+pub due_to : (words : List (List ℕ)) (command : Option Command) (program script : List ℕ) (a : Answer) → command_of words ≡ command → DueTo command program script a → Due words program script a
+due_to words command program script a form due = subst (λ o. DueTo o program script a) (sym form) due
 
 pub no_words_answer : (image report : Option (List ℕ)) → Answers status.Words (answer status.Words [] []) image image report report
 no_words_answer image report = record { report_text = (refl, Appends-none report); image_text = (refl, Appends-none image) }

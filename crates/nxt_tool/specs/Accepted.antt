@@ -5,13 +5,11 @@ use Rattle.nxt_types.specs.Shapes.{Members}
 use Rattle.nxt_rxe.specs.declared.parts.Parts.{Parts}
 use Rattle.nxt_rxe.specs.Files.{IsFile}
 use Rattle.nxt_rxe.specs.FileRules as file_rules
-use Rattle.nxt_layout.specs.declared.fault.LayoutFault.{LayoutFault}
-use Rattle.nxt_layout.specs.declared.fault.LayoutFault.TheVariants as layout_faults
 use Rattle.nxt_layout.specs.LayoutRules as layout_rules
-use Rattle.nxt_layout.specs.Layouts.{BrokenNow}
-use Rattle.nxt_layout.specs.Start.{HasShapes}
+use Rattle.nxt_layout.specs.Start.{HasShapes, StartsAs, start_footprint}
 use Rattle.nxt_code.specs.CodeRules as code_rules
 use Rattle.nxt_model.specs.Image.{Image}
+use Rattle.nxt_model.specs.Values.{Value}
 use Rattle.nxt_model.specs.LineText.{line_of}
 use Rattle.nxt_tool.specs.FirstFile.{image_in}
 use Rattle.nxt_tool.specs.declared.accept.Refusal.{Refusal}
@@ -27,7 +25,7 @@ code_in p ss = code_rules.program ss p.clumps p.dependents p.code
 
 -- the parts break no rule, and their variables have these shapes
 pub record BreaksNone (p : Parts) (ss : Members) : Type 0 where
-  pub layout : IsAccepted (BrokenNow p)
+  pub layout : IsAccepted (layout_rules.Broken p)
   pub shapes : HasShapes p ss
   pub code : IsAccepted (code_rules.Broken (code_in p ss))
 
@@ -39,14 +37,26 @@ pub record IsAcceptedAs (bytes : List ℕ) (image : Image) : Type 0 where
   pub sound : BreaksNone parts shapes
   pub image_is : image_in parts ≡ Some image
 
+-- the parts break no rule, and the start of their variables needs so many bytes of the pool
+pub record IsSound (p : Parts) (size : ℕ) : Type 0 where
+  pub shapes : Members
+  pub sound : BreaksNone p shapes
+  pub vars : Value
+  pub starts : StartsAs p shapes vars
+  pub size_is : size ≡ start_footprint p shapes vars
+
+-- the bytes are a file with such parts
+abbrev pub IsSoundFile : List ℕ → ℕ → Type 0
+IsSoundFile bytes size = (p : Parts) × IsFile bytes p × IsSound p size
+
 -- ---- refused files
 
 -- the first broken rule of the table and the data, or else of the clumps and the code; or the image doesn't run yet
 abbrev pub RefusesParts : Parts → Refusal → Type 0
 RefusesParts p (Sections f) = ⊥
-RefusesParts p (Layout f) = IsRefusal (BrokenNow p) layout_rules.rank f
+RefusesParts p (Layout f) = IsRefusal (layout_rules.Broken p) layout_rules.rank f
 RefusesParts p (Code f) =
-    IsAccepted (BrokenNow p) × (ss : Members) × HasShapes p ss × IsRefusal (code_rules.Broken (code_in p ss)) code_rules.rank f
+    IsAccepted (layout_rules.Broken p) × (ss : Members) × HasShapes p ss × IsRefusal (code_rules.Broken (code_in p ss)) code_rules.rank f
 RefusesParts p Unbuilt = (ss : Members) × BreaksNone p ss × (image_in p ≡ None)
 
 -- the file is refused: by the first broken rule of its sections, or for its parts
@@ -54,28 +64,40 @@ abbrev pub IsRefused : List ℕ → Refusal → Type 0
 IsRefused bytes (Sections f) = IsRefusal (file_rules.Broken bytes) file_rules.rank f
 IsRefused bytes r = (p : Parts) × IsFile bytes p × RefusesParts p r
 
+-- a rule is broken: not one that doesn't run yet
+abbrev pub BreaksRule : List ℕ → Refusal → Type 0
+BreaksRule bytes Unbuilt = ⊥
+BreaksRule bytes r = IsRefused bytes r
+
+-- an answer that is no footprint has its cause; want of memory is free
+abbrev pub HasBreak : List ℕ → AcceptFault → Type 0
+HasBreak bytes (Refused r) = BreaksRule bytes r
+HasBreak bytes NoMemory = Unit {0}
+
 -- an answer that is no program has its cause; want of memory is free
 abbrev pub HasCause : List ℕ → AcceptFault → Type 0
 HasCause bytes (Refused r) = IsRefused bytes r
 HasCause bytes NoMemory = Unit {0}
 
+abbrev pub BreaksPart : Parts → Refusal → Type 0
+BreaksPart p Unbuilt = ⊥
+BreaksPart p r = RefusesParts p r
+
 abbrev pub PartsCause : Parts → AcceptFault → Type 0
-PartsCause p (Refused r) = RefusesParts p r
+PartsCause p (Refused r) = BreaksPart p r
 PartsCause p NoMemory = Unit {0}
 
 -- ---- lines
 
--- a table that spells an array isn't judged by the rules on rows yet
-abbrev pub shown : LayoutFault → List ℕ
-shown layout_faults.Unbuilt = 0 ∷ []
-shown f = layout_rules.rank f
-
 -- what the line tells: the rule's number, and the place
 abbrev pub told : Refusal → List ℕ
 told (Sections f) = file_rules.rank f
-told (Layout f) = shown f
+told (Layout f) = layout_rules.rank f
 told (Code f) = code_rules.rank f
 told Unbuilt = 0 ∷ []
+
+abbrev pub accepted_line : ℕ → List ℕ
+accepted_line size = line_of (codes "accepted") (decimal size ∷ [])
 
 abbrev pub refused_line : List ℕ → List ℕ
 refused_line rule_and_place = line_of (codes "refused") (map decimal rule_and_place)

@@ -1,12 +1,14 @@
 -- The answer that is due to a command, and what a call does of it.
-use Rattle.std.specs.Prelude.{◌≡◌, ◌⊎◌, ◌≤◌, ℕ, List, [], length, map, nat_lt, Bool, true, false, MatchBool, if◌then◌else◌, Option, IfSome}
+use Rattle.std.specs.Prelude.{◌≡◌, ◌⊎◌, ◌≤◌, ℕ, List, [], length, map, nat_lt, Bool, true, false, MatchBool, if◌then◌else◌, Option, Some, None, IfSome, IsSome}
 use Rattle.std.specs.Io.KnownBytes.{Appends}
 use Rattle.nxt_edge.specs.Edge.{AppendsFront, Rose}
 use Rattle.nxt_model.specs.Image.{Image, program_of}
 use Rattle.nxt_model.specs.Program.{start}
 use Rattle.nxt_model.specs.Report.{IsReport, setting}
-use Rattle.nxt_tool.specs.Words.{is_run}
-use Rattle.nxt_tool.specs.Accepted.{IsAcceptedAs, IsRefused, refused_line, told}
+use Rattle.nxt_tool.specs.declared.words.Command.{Command}
+use Rattle.nxt_tool.specs.declared.words.Command.TheVariants.{RunRxe, Check}
+use Rattle.nxt_tool.specs.Words.{command_of}
+use Rattle.nxt_tool.specs.Accepted.{IsAcceptedAs, IsSoundFile, IsRefused, BreaksRule, accepted_line, refused_line, told}
 use Rattle.nxt_tool.specs.declared.accept.Refusal.{Refusal}
 use Rattle.nxt_tool.specs.Ends.{status_of}
 use Rattle.nxt_tool.specs.Plain.{held}
@@ -88,6 +90,10 @@ most_program_bytes = 262144
 abbrev pub refused_answer : Refusal → Answer
 refused_answer r = answer statuses.Refused [] (refused_line (told r))
 
+-- an accepted one has the line of its footprint
+abbrev pub sound_answer : ℕ → Answer
+sound_answer size = answer statuses.Done [] (accepted_line size)
+
 -- of an accepted file `go` says what is due
 abbrev pub OfFile : List ℕ → (Image → Answer → Type 0) → Answer → Type 0
 OfFile bytes go a =
@@ -101,13 +107,27 @@ Within program go a = MatchBool (nat_lt most_program_bytes (length program)) (a 
 abbrev pub Run : List ℕ → List ℕ → Answer → Type 0
 Run program script a = Within program (λ bytes. OfFile bytes (λ image. RunOn image script)) a
 
+-- the answer to a program that is checked: the line of its first broken rule, or the footprint of its start
+abbrev pub CheckFile : List ℕ → Answer → Type 0
+CheckFile bytes a =
+    ((r : Refusal) × BreaksRule bytes r × (a ≡ refused_answer r))
+    ⊎ ((size : ℕ) × IsSoundFile bytes size × (a ≡ sound_answer size))
+
+abbrev pub CheckOf : List ℕ → Answer → Type 0
+CheckOf program a = Within program CheckFile a
+
+abbrev pub DueTo : Option Command → List ℕ → List ℕ → Answer → Type 0
+DueTo None program script a = a ≡ answer statuses.Words [] []
+DueTo (Some RunRxe) program script a = Run program script a
+DueTo (Some Check) program script a = CheckOf program a
+
 abbrev pub Due : List (List ℕ) → List ℕ → List ℕ → Answer → Type 0
-Due words program script a = MatchBool (is_run words) (Run program script a) (a ≡ answer statuses.Words [] [])
+Due words program script a = DueTo (command_of words) program script a
 
 -- ---- what is used
 
 abbrev pub UsesProgram : List (List ℕ) → Type 0
-UsesProgram words = is_run words ≡ true
+UsesProgram words = IsSome (command_of words)
 
 -- a program that is neither too large nor refused, so that the script is read
 pub record ReadsScript (program : List ℕ) : Type 0 where
@@ -116,14 +136,14 @@ pub record ReadsScript (program : List ℕ) : Type 0 where
   pub accepted : IsAcceptedAs program image
 
 abbrev pub UsesScript : List (List ℕ) → List ℕ → Type 0
-UsesScript words program = UsesProgram words × ReadsScript program
+UsesScript words program = (command_of words ≡ Some RunRxe) × ReadsScript program
 
 -- the program's bytes, where they are told, are those of a program behind which the script is read
 abbrev pub Accepts : Option (List ℕ) → Type 0
 Accepts program = IfSome program ReadsScript
 
 abbrev pub MayReadScript : List (List ℕ) → Option (List ℕ) → Type 0
-MayReadScript words program = UsesProgram words × Accepts program
+MayReadScript words program = (command_of words ≡ Some RunRxe) × Accepts program
 
 -- each sink got its text whole, or a front of it
 pub record Answers (s : Status) (d : Answer) (image image' report report' : Option (List ℕ)) : Type 0 where

@@ -1,15 +1,30 @@
 -- The words of a command.
-use Rattle.std.specs.Prelude.{Bool, false, ◌&&◌, ℕ, List, [], ◌∷◌, map, codes, bytes_eq, Vec}
+use Rattle.std.specs.Prelude.{Bool, ◌&&◌, ℕ, List, [], ◌∷◌, map, codes, bytes_eq, Vec, Option, Some, None, if◌then◌else◌}
 use Rattle.std.specs.declared.alloc.Global.{Global}
+use Rattle.nxt_tool.specs.declared.words.Command.{Command}
+use Rattle.nxt_tool.specs.declared.words.Command.TheVariants.{RunRxe, Check}
 
--- the words `run`, `rxe`, a program's name and a script's name
-abbrev pub is_run : List (List ℕ) → Bool
-is_run [] = false
-is_run (a ∷ []) = false
-is_run (a ∷ b ∷ []) = false
-is_run (a ∷ b ∷ c ∷ []) = false
-is_run (a ∷ b ∷ c ∷ d ∷ []) = bytes_eq a (codes "run") && bytes_eq b (codes "rxe")
-is_run (a ∷ b ∷ c ∷ d ∷ e ∷ more) = false
+abbrev pub given_by : {X : Type 0} → Bool → X → Option X
+given_by test x = if test then Some x else None
+
+-- `check` and a program's name; or `run`, `rxe`, a program's name and a script's name
+abbrev pub command_of : List (List ℕ) → Option Command
+command_of [] = None
+command_of (a ∷ []) = None
+command_of (a ∷ b ∷ []) = given_by (bytes_eq a (codes "check")) Check
+command_of (a ∷ b ∷ c ∷ []) = None
+command_of (a ∷ b ∷ c ∷ d ∷ []) = given_by (bytes_eq a (codes "run") && bytes_eq b (codes "rxe")) RunRxe
+command_of (a ∷ b ∷ c ∷ d ∷ e ∷ more) = None
+
+-- where the names of files stand
+abbrev pub program_word : Option Command → Option ℕ
+program_word None = None
+program_word (Some RunRxe) = Some 2
+program_word (Some Check) = Some 1
+
+abbrev pub script_word : Option Command → Option ℕ
+script_word (Some RunRxe) = Some 3
+script_word _ = None
 
 -- the words as lists of bytes
 abbrev pub texts_of : List (Vec ℕ Global) → List (List ℕ)

@@ -1,9 +1,8 @@
 // Whether a program file is accepted, and the line of one that isn't.
 
 ghost use Rattle.std.specs.Prelude.{◌≡◌, [], ◌∷◌, MatchResult, IfOk};
-ghost use Rattle.nxt_types.specs.Shapes.{Members};
-ghost use Rattle.nxt_rxe.specs.Files.{HasCounts, Fits};
-ghost use Rattle.nxt_tool.specs.Accepted.{BreaksNone, IsAcceptedAs, HasCause, PartsCause, refused_line, told};
+ghost use Rattle.nxt_rxe.specs.Files.{HasCounts, Fits, IsFile};
+ghost use Rattle.nxt_tool.specs.Accepted.{IsSound, IsSoundFile, IsAcceptedAs, HasBreak, HasCause, PartsCause, accepted_line, refused_line, told};
 
 use crate::image::{ReadFault, first_image};
 use crate::machine::Image;
@@ -38,15 +37,7 @@ pub enum AcceptFault {
 pub fn accept(alloc: Global, bytes: &[u8]) -> Result<Image, AcceptFault>
     ensures { MatchResult result (IsAcceptedAs bytes.now) (HasCause bytes.now) }
 {
-    let parts = match read_rxe(alloc, bytes) {
-        Ok(parts) => parts,
-        Err(RxeFault::NoMemory) => return Err(AcceptFault::NoMemory),
-        Err(fault) => return Err(AcceptFault::Refused(Refusal::Sections(fault))),
-    };
-    match judge(alloc, &parts) {
-        Ok(()) => {}
-        Err(fault) => return Err(fault),
-    }
+    let (parts, _footprint) = judged(alloc, bytes)?;
     match first_image(alloc, parts) {
         Ok(image) => Ok(image),
         Err(ReadFault::NoMemory) => Err(AcceptFault::NoMemory),
@@ -54,11 +45,32 @@ pub fn accept(alloc: Global, bytes: &[u8]) -> Result<Image, AcceptFault>
     }
 }
 
-// Whether the parts of a file break no rule.
-fn judge(alloc: Global, parts: &Parts) -> Result<(), AcceptFault>
+/// The bytes of the pool that the start of a file needs, or the first rule that the file breaks.
+pub fn check(alloc: Global, bytes: &[u8]) -> Result<u32, AcceptFault>
+    ensures { MatchResult result (IsSoundFile bytes.now) (HasBreak bytes.now) }
+{
+    let (_parts, footprint) = judged(alloc, bytes)?;
+    Ok(footprint)
+}
+
+// The parts of a file that breaks no rule, and the bytes of the pool that its start needs.
+fn judged(alloc: Global, bytes: &[u8]) -> Result<(Parts, u32), AcceptFault>
+    ensures { MatchResult result (λ x. IsFile bytes.now x.0 × IsSound x.0 x.1) (HasBreak bytes.now) }
+{
+    let parts = match read_rxe(alloc, bytes) {
+        Ok(parts) => parts,
+        Err(RxeFault::NoMemory) => return Err(AcceptFault::NoMemory),
+        Err(fault) => return Err(AcceptFault::Refused(Refusal::Sections(fault))),
+    };
+    let footprint = judge(alloc, &parts)?;
+    Ok((parts, footprint))
+}
+
+// What the start of the parts of a file needs, where they break no rule.
+fn judge(alloc: Global, parts: &Parts) -> Result<u32, AcceptFault>
     requires counts { HasCounts parts.now }
     requires fits { Fits parts.now }
-    ensures { MatchResult result (λ _. (ss : Members) × BreaksNone parts.now ss) (PartsCause parts.now) }
+    ensures { MatchResult result (IsSound parts.now) (PartsCause parts.now) }
 {
     let layout = match check_layout(alloc, parts) {
         Ok(layout) => layout,
@@ -67,10 +79,17 @@ fn judge(alloc: Global, parts: &Parts) -> Result<(), AcceptFault>
     };
     let toc = layout.toc();
     match check_code(alloc, toc, &parts.clumps, &parts.dependents, &parts.code) {
-        Ok(_) => Ok(()),
+        Ok(_) => Ok(layout.footprint()),
         Err(CodeFault::NoMemory) => Err(AcceptFault::NoMemory),
         Err(fault) => Err(AcceptFault::Refused(Refusal::Code(fault))),
     }
+}
+
+/// The line of an accepted file: the bytes of the pool that its start needs.
+pub fn footprint_line(alloc: Global, footprint: u32) -> Result<Bytes, NoMemory>
+    ensures { IfOk result (λ text. text ≡ accepted_line footprint) }
+{
+    number_line(alloc, b"accepted", &[i64::from(footprint)])
 }
 
 /// The line of a refused file: the rule's number and its place.
@@ -108,7 +127,6 @@ fn layout_line(alloc: Global, fault: LayoutFault) -> Result<Bytes, NoMemory>
         LayoutFault::Place(entry) => place_line(alloc, 9, entry),
         LayoutFault::Overlap(first, second) => places_line(alloc, 10, first, second),
         LayoutFault::DefaultsShort(entry) => place_line(alloc, 11, entry),
-        LayoutFault::Unbuilt => number_line(alloc, b"refused", &[0]),
         LayoutFault::RowZero => number_line(alloc, b"refused", &[12]),
         LayoutFault::RowIndex(entry) => place_line(alloc, 13, entry),
         LayoutFault::RowShared(row) => place_line(alloc, 14, row),

@@ -1,5 +1,6 @@
 // What crosses the crates: worked commands, each statement at its edges, and calls that fail.
 
+mod checks;
 mod faults;
 mod rows;
 mod statements;
@@ -36,11 +37,11 @@ pub const RISING_REPORT: &[u8] =
     b"motor,0,0,20,0,0,0,0\nmotor,0,0,40,0,0,0,0\nmotor,0,0,60,0,0,0,0\nmotor,0,0,80,0,0,0,0\nmotor,0,0,100,0,0,0,0\nstop,finished\nend,3\n";
 
 /// The words of `run rxe` with names of files.
-pub fn run_words(alloc: Global) -> Result<Vec<Vec<u8>>, Fail> {
+fn run_words(alloc: Global) -> Result<Vec<Vec<u8>>, Fail> {
     words_of(alloc, &[b"run", b"rxe", b"a", b"b"])
 }
 
-pub fn words_of(alloc: Global, texts: &[&[u8]]) -> Result<Vec<Vec<u8>>, Fail> {
+fn words_of(alloc: Global, texts: &[&[u8]]) -> Result<Vec<Vec<u8>>, Fail> {
     let mut words = Vec::new(alloc);
     for text in texts {
         words.push(text.to_vec(alloc)?)?;
@@ -73,7 +74,7 @@ pub const NONE: Failing<'static> = Failing {
 };
 
 /// Runs a command over objects in memory, each of which moves so many bytes with a call.
-pub fn command(
+fn command(
     alloc: Global,
     words: &[Vec<u8>],
     program: &[u8],

@@ -1,14 +1,15 @@
-ghost use Rattle.std.specs.Prelude.{◌≡◌, ◌⊎◌, ◌↔◌, ℕ, false, ◌≤◌, List, [], Option, Some, None};
+ghost use Rattle.std.specs.Prelude.{◌≡◌, ◌⊎◌, ◌↔◌, ℕ, ◌≤◌, List, [], Option, Some, None};
 ghost use Rattle.nxt_edge.specs.Edge.{Rose, AreBytes};
-ghost use Rattle.nxt_tool.specs.Due.{Answer, Meets, read_status, write_status, answer_given, answer_to, refused_answer, Run, Due, UsesProgram, ReadsScript, UsesScript, Accepts, MayReadScript, Answers, IsQuiet, NotRefused};
+ghost use Rattle.nxt_tool.specs.Due.{Answer, Meets, read_status, write_status, answer_given, answer_to, refused_answer, sound_answer, Run, CheckOf, Due, UsesProgram, ReadsScript, UsesScript, Accepts, MayReadScript, Answers, IsQuiet, NotRefused};
 ghost use Rattle.nxt_tool.specs.Rows.{given, at_first};
-ghost use Rattle.nxt_tool.specs.Words.{is_run as run_form, texts_of};
+ghost use Rattle.nxt_tool.specs.Words.{command_of, texts_of};
+ghost use Rattle.nxt_tool.specs.declared.words.Command.TheVariants.{RunRxe};
 
-use crate::accept::{AcceptFault, Refusal, accept, refusal_line};
+use crate::accept::{AcceptFault, Refusal, accept, check, footprint_line, refusal_line};
 use crate::machine::{Image, Machine};
 use crate::running::run_script;
 use crate::status::Status;
-use crate::words::is_run;
+use crate::words::{Command, form_of};
 use crate::writing::{Fault, put};
 use nxt_edge::{ReadAllFault, Sink, Source, read_all};
 use std::alloc::Global;
@@ -115,6 +116,41 @@ fn run<P: Source, Q: Source, R: Sink>(
     }
 }
 
+// Writes the line of an accepted program.
+fn tell<R: Sink>(alloc: Global, footprint: u32, report: &mut R) -> Status
+    ensures told { Meets result (sound_answer footprint) (R.written report.old) (R.written report.new) }
+    ensures write { result ≡ Status.WriteFault → Rose (R.faults report.old) (R.faults report.new) }
+    ensures report { R.faults report.old ≤ R.faults report.new }
+    ensures only { (result ≡ Status.ReadFault → ⊥) × (result ≡ Status.Words → ⊥) }
+{
+    let Ok(line) = footprint_line(alloc, footprint) else {
+        return Status::NoMemory;
+    };
+    match put(report, line.as_slice()) {
+        Ok(()) => Status::Done,
+        Err(fault) => of_write(fault),
+    }
+}
+
+// Checks a program file.
+fn check_file<P: Source, R: Sink>(alloc: Global, program: &mut P, report: &mut R) -> Status
+    ensures told { (b : List ℕ) → AreBytes b → P.left program.old ≡ Some b → (a : Answer) × CheckOf b a × Meets result a (R.written report.old) (R.written report.new) }
+    ensures read { result ≡ Status.ReadFault → Rose (P.faults program.old) (P.faults program.new) }
+    ensures write { result ≡ Status.WriteFault → Rose (R.faults report.old) (R.faults report.new) }
+    ensures words { result ≡ Status.Words → ⊥ }
+    ensures later { (P.faults program.old ≤ P.faults program.new) × (R.faults report.old ≤ R.faults report.new) }
+{
+    let bytes = match read_all(alloc, program, MOST_PROGRAM) {
+        Ok(bytes) => bytes,
+        Err(fault) => return of_read(fault),
+    };
+    match check(alloc, bytes.as_slice()) {
+        Ok(footprint) => tell(alloc, footprint, report),
+        Err(AcceptFault::NoMemory) => Status::NoMemory,
+        Err(AcceptFault::Refused(refusal)) => refuse(alloc, refusal, report),
+    }
+}
+
 fn answer<P: Source, Q: Source, I: Sink, R: Sink>(
     alloc: Global,
     words: &[Vec<u8>],
@@ -126,24 +162,25 @@ fn answer<P: Source, Q: Source, I: Sink, R: Sink>(
     ensures told { (b s : List ℕ) → AreBytes b → (UsesProgram (texts_of words.now) → P.left program.old ≡ Some b)
         → (UsesScript (texts_of words.now) b → Q.left script.old ≡ Some s)
         → (a : Answer) × Due (texts_of words.now) b s a × Answers result a (I.written image.old) (I.written image.new) (R.written report.old) (R.written report.new) }
-    ensures words { (result ≡ Status.Words) ↔ (run_form (texts_of words.now) ≡ false) }
+    ensures words { (result ≡ Status.Words) ↔ (command_of (texts_of words.now) ≡ None) }
     ensures read { result ≡ Status.ReadFault → Rose (P.faults program.old) (P.faults program.new) ⊎ (MayReadScript (texts_of words.now) (P.left program.old) × Rose (Q.faults script.old) (Q.faults script.new)) }
     ensures write { result ≡ Status.WriteFault → Rose (R.faults report.old) (R.faults report.new) }
-    ensures no_form { run_form (texts_of words.now) ≡ false → (program.new ≡ program.old) × (report.new ≡ report.old) }
+    ensures no_form { command_of (texts_of words.now) ≡ None → (program.new ≡ program.old) × (report.new ≡ report.old) }
     ensures script { (MayReadScript (texts_of words.now) (P.left program.old) → ⊥) → script.new ≡ script.old }
     ensures image { image.new ≡ image.old }
     ensures later { (P.faults program.old ≤ P.faults program.new) × (Q.faults script.old ≤ Q.faults script.new) × (R.faults report.old ≤ R.faults report.new) }
 {
-    if is_run(words) {
-        run(alloc, program, script, report)
-    } else {
-        Status::Words
+    match form_of(words) {
+        Some(Command::RunRxe) => run(alloc, program, script, report),
+        Some(Command::Check) => check_file(alloc, program, report),
+        None => Status::Words,
     }
 }
 
 /// Does what the words say, and answers how it ended. `words` are those of the command without the program's own name.
 ///
 /// `run rxe FILE SCRIPT` runs the rows of the script on the image that the program holds, and writes the report.
+/// `check FILE` writes whether the program's image is accepted, and with what footprint, or the first rule that it breaks.
 /// Other words have no form: nothing is read or written. `image` is for commands that write a file.
 pub fn nxt<P: Source, Q: Source, I: Sink, R: Sink>(
     alloc: Global,
@@ -166,7 +203,7 @@ pub fn nxt<P: Source, Q: Source, I: Sink, R: Sink>(
         → ((a : Answer) × Due (texts_of words.now) b s a × (result ≡ a.status)) ⊎ (result ≡ Status.NoMemory) }
 
     // The words alone decide whether they have a form.
-    ensures words { (result ≡ Status.Words) ↔ (run_form (texts_of words.now) ≡ false) }
+    ensures words { (result ≡ Status.Words) ↔ (command_of (texts_of words.now) ≡ None) }
 
     // A fault is told only where a used object failed in this call.
     ensures read_fault { result ≡ Status.ReadFault → Rose (P.faults program.old) (P.faults program.new)
@@ -175,7 +212,7 @@ pub fn nxt<P: Source, Q: Source, I: Sink, R: Sink>(
     ensures later { (P.faults program.old ≤ P.faults program.new) × (Q.faults script.old ≤ Q.faults script.new) × (R.faults report.old ≤ R.faults report.new) }
 
     // What isn't used is left as it was.
-    ensures no_form { run_form (texts_of words.now) ≡ false → (program.new ≡ program.old) × (report.new ≡ report.old) }
+    ensures no_form { command_of (texts_of words.now) ≡ None → (program.new ≡ program.old) × (report.new ≡ report.old) }
     ensures script { (MayReadScript (texts_of words.now) (P.left program.old) → ⊥) → script.new ≡ script.old }
     ensures image { image.new ≡ image.old }
 {

@@ -22,111 +22,111 @@ struct Row<'a> {
 
 const WHOLE: usize = 4096;
 
+const ROWS: [Row<'static>; 10] = [
+    Row {
+        name: "motor_image",
+        program: &MOTOR,
+        script: b"run,100",
+        chunk: WHOLE,
+        failing: NONE,
+        status: Status::Done,
+        report: MOTOR_REPORT,
+    },
+    Row {
+        name: "rising power",
+        program: &RISING,
+        script: b"run,9\ntick,50\nrun,9\n",
+        chunk: WHOLE,
+        failing: NONE,
+        status: Status::Done,
+        report: RISING_REPORT,
+    },
+    Row {
+        name: "endless_jump",
+        program: &ENDLESS_JUMP,
+        script: b"run,3\r\n\n",
+        chunk: WHOLE,
+        failing: NONE,
+        status: Status::Done,
+        report: b"end,1\n",
+    },
+    Row {
+        name: "bad_third_row",
+        program: &MOTOR,
+        script: b"run,100\ntick,5\nfoo,1\n",
+        chunk: WHOLE,
+        failing: NONE,
+        status: Status::ScriptRefused,
+        report: b"motor,0,0,75,0,0,0,0\nstop,finished\nscript,3\n",
+    },
+    Row {
+        name: "sink_fails",
+        program: &MOTOR,
+        script: b"run,100",
+        chunk: 8,
+        failing: Failing {
+            report: &[1],
+            ..NONE
+        },
+        status: Status::WriteFault,
+        report: b"motor,0,",
+    },
+    Row {
+        name: "script_source_fails",
+        program: &MOTOR,
+        script: b"run,100",
+        chunk: WHOLE,
+        failing: Failing {
+            script: &[0],
+            ..NONE
+        },
+        status: Status::ReadFault,
+        report: b"",
+    },
+    Row {
+        name: "the last row in range",
+        program: &ENDLESS_JUMP,
+        script: b"run,1000000\ntick,0001000000\nrun,0\n",
+        chunk: WHOLE,
+        failing: NONE,
+        status: Status::Done,
+        report: b"end,3\n",
+    },
+    Row {
+        name: "one bytecode more than a row may run",
+        program: &ENDLESS_JUMP,
+        script: b"run,1000001\n",
+        chunk: WHOLE,
+        failing: NONE,
+        status: Status::ScriptRefused,
+        report: b"script,1\n",
+    },
+    Row {
+        name: "one bytecode more than a script may run",
+        program: &ENDLESS_JUMP,
+        script: b"run,1000000\nrun,1000000\nrun,1000000\nrun,1000000\nrun,1\n",
+        chunk: WHOLE,
+        failing: NONE,
+        status: Status::ScriptRefused,
+        report: b"script,5\n",
+    },
+    Row {
+        name: "an empty script",
+        program: &ENDLESS_JUMP,
+        script: b"\n\r\n",
+        chunk: 1,
+        failing: NONE,
+        status: Status::Done,
+        report: b"end,0\n",
+    },
+];
+
 // The status `Done` here, with ample memory, shows that the tool doesn't always answer want of memory.
 #[test]
 fn worked_rows(rt: HostRuntime) -> Result<(), Fail> {
     let alloc = rt.alloc();
     let words = run_words(alloc)?;
-    let fails_at_0: &[u32] = &[0];
-    let fails_at_1: &[u32] = &[1];
-    for row in &[
-        Row {
-            name: "motor_image",
-            program: &MOTOR,
-            script: b"run,100",
-            chunk: WHOLE,
-            failing: NONE,
-            status: Status::Done,
-            report: MOTOR_REPORT,
-        },
-        Row {
-            name: "rising power",
-            program: &RISING,
-            script: b"run,9\ntick,50\nrun,9\n",
-            chunk: WHOLE,
-            failing: NONE,
-            status: Status::Done,
-            report: RISING_REPORT,
-        },
-        Row {
-            name: "endless_jump",
-            program: &ENDLESS_JUMP,
-            script: b"run,3\r\n\n",
-            chunk: WHOLE,
-            failing: NONE,
-            status: Status::Done,
-            report: b"end,1\n",
-        },
-        Row {
-            name: "bad_third_row",
-            program: &MOTOR,
-            script: b"run,100\ntick,5\nfoo,1\n",
-            chunk: WHOLE,
-            failing: NONE,
-            status: Status::ScriptRefused,
-            report: b"motor,0,0,75,0,0,0,0\nstop,finished\nscript,3\n",
-        },
-        Row {
-            name: "sink_fails",
-            program: &MOTOR,
-            script: b"run,100",
-            chunk: 8,
-            failing: Failing {
-                report: fails_at_1,
-                ..NONE
-            },
-            status: Status::WriteFault,
-            report: b"motor,0,",
-        },
-        Row {
-            name: "script_source_fails",
-            program: &MOTOR,
-            script: b"run,100",
-            chunk: WHOLE,
-            failing: Failing {
-                script: fails_at_0,
-                ..NONE
-            },
-            status: Status::ReadFault,
-            report: b"",
-        },
-        Row {
-            name: "the last row in range",
-            program: &ENDLESS_JUMP,
-            script: b"run,1000000\ntick,0001000000\nrun,0\n",
-            chunk: WHOLE,
-            failing: NONE,
-            status: Status::Done,
-            report: b"end,3\n",
-        },
-        Row {
-            name: "one bytecode more than a row may run",
-            program: &ENDLESS_JUMP,
-            script: b"run,1000001\n",
-            chunk: WHOLE,
-            failing: NONE,
-            status: Status::ScriptRefused,
-            report: b"script,1\n",
-        },
-        Row {
-            name: "one bytecode more than a script may run",
-            program: &ENDLESS_JUMP,
-            script: b"run,1000000\nrun,1000000\nrun,1000000\nrun,1000000\nrun,1\n",
-            chunk: WHOLE,
-            failing: NONE,
-            status: Status::ScriptRefused,
-            report: b"script,5\n",
-        },
-        Row {
-            name: "an empty script",
-            program: &ENDLESS_JUMP,
-            script: b"\n\r\n",
-            chunk: 1,
-            failing: NONE,
-            status: Status::Done,
-            report: b"end,0\n",
-        },
-    ] {
+    for row in &ROWS {
         let name = row.name;
         let ended = command(
             alloc,
@@ -236,12 +236,11 @@ fn other_files(rt: HostRuntime) -> Result<(), Fail> {
 #[test]
 fn words_of_no_form(rt: HostRuntime) -> Result<(), Fail> {
     let alloc = rt.alloc();
-    let fails_at_0: &[u32] = &[0];
     let failing = Failing {
-        program: fails_at_0,
-        script: fails_at_0,
-        image: fails_at_0,
-        report: fails_at_0,
+        program: &[0],
+        script: &[0],
+        image: &[0],
+        report: &[0],
     };
     let none: &[&[u8]] = &[];
     let run: &[u8] = b"run";
@@ -250,6 +249,8 @@ fn words_of_no_form(rt: HostRuntime) -> Result<(), Fail> {
     for texts in [
         none,
         &[run, rxe, a],
+        &[b"check"],
+        &[b"check", a, a],
         &[run, rxe, a, a, a],
         &[b"RUN", rxe, a, a],
         &[run, b"nxc", a, a],

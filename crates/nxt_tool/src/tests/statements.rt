@@ -102,306 +102,308 @@ const EQ: [u16; 10] = [0x601C, D, 1, 0x8426, 7, X, Y, 0x601C, D, 0];
 
 const NEQ: [u16; 10] = [0x601C, D, 1, 0x8526, 7, X, Y, 0x601C, D, 0];
 
+const CASES: [Case<'static>; 21] = [
+    Case {
+        name: "an sbyte 0x80 moved to a ulong keeps its sign",
+        x: Source {
+            code: SBYTE,
+            start: &[0x80],
+        },
+        y: Source {
+            code: UBYTE,
+            start: &[0x00],
+        },
+        d: ULONG,
+        code: &MOV,
+        limit: b"4294967168",
+    },
+    Case {
+        name: "a ubyte 0x80 moved to an slong has none",
+        x: Source {
+            code: UBYTE,
+            start: &[0x80],
+        },
+        y: Source {
+            code: UBYTE,
+            start: &[0x00],
+        },
+        d: SLONG,
+        code: &MOV,
+        limit: b"128",
+    },
+    Case {
+        name: "65535 moved to an sword is -1",
+        x: Source {
+            code: UWORD,
+            start: &[0xFF, 0xFF],
+        },
+        y: Source {
+            code: UBYTE,
+            start: &[0x00],
+        },
+        d: SWORD,
+        code: &MOV,
+        limit: b"4294967295",
+    },
+    Case {
+        name: "an slong is cut to a ubyte",
+        x: Source {
+            code: SLONG,
+            start: &[0xFF, 0xFF, 0xFF, 0xFF],
+        },
+        y: Source {
+            code: UBYTE,
+            start: &[0x00],
+        },
+        d: UBYTE,
+        code: &MOV,
+        limit: b"255",
+    },
+    Case {
+        name: "a set of 65535 to an sword is -1",
+        x: Source {
+            code: UBYTE,
+            start: &[0x00],
+        },
+        y: Source {
+            code: UBYTE,
+            start: &[0x00],
+        },
+        d: SWORD,
+        code: &[0x601C, D, 65535],
+        limit: b"4294967295",
+    },
+    Case {
+        name: "a set of 65535 to a ulong is 65535",
+        x: Source {
+            code: UBYTE,
+            start: &[0x00],
+        },
+        y: Source {
+            code: UBYTE,
+            start: &[0x00],
+        },
+        d: ULONG,
+        code: &[0x601C, D, 65535],
+        limit: b"65535",
+    },
+    Case {
+        name: "a sum of unsigned numbers wraps",
+        x: Source {
+            code: ULONG,
+            start: &[0xFF, 0xFF, 0xFF, 0xFF],
+        },
+        y: Source {
+            code: UBYTE,
+            start: &[0x02],
+        },
+        d: ULONG,
+        code: &ADD,
+        limit: b"1",
+    },
+    Case {
+        name: "a sum of signed numbers wraps",
+        x: Source {
+            code: SLONG,
+            start: &[0xFF, 0xFF, 0xFF, 0x7F],
+        },
+        y: Source {
+            code: UBYTE,
+            start: &[0x01],
+        },
+        d: SLONG,
+        code: &ADD,
+        limit: b"2147483648",
+    },
+    Case {
+        name: "a sum is cut to its destination",
+        x: Source {
+            code: UWORD,
+            start: &[0xFF, 0xFF],
+        },
+        y: Source {
+            code: UBYTE,
+            start: &[0x01],
+        },
+        d: UWORD,
+        code: &ADD,
+        limit: b"0",
+    },
+    Case {
+        name: "a signed number is less than an unsigned one",
+        x: Source {
+            code: SBYTE,
+            start: &[0xFF],
+        },
+        y: Source {
+            code: UBYTE,
+            start: &[0x00],
+        },
+        d: UBYTE,
+        code: &LT,
+        limit: b"1",
+    },
+    Case {
+        name: "the greatest unsigned number is not less than 0",
+        x: Source {
+            code: ULONG,
+            start: &[0xFF, 0xFF, 0xFF, 0xFF],
+        },
+        y: Source {
+            code: UBYTE,
+            start: &[0x00],
+        },
+        d: UBYTE,
+        code: &LT,
+        limit: b"0",
+    },
+    Case {
+        name: "-1 equals the greatest unsigned number",
+        x: Source {
+            code: SBYTE,
+            start: &[0xFF],
+        },
+        y: Source {
+            code: ULONG,
+            start: &[0xFF, 0xFF, 0xFF, 0xFF],
+        },
+        d: UBYTE,
+        code: &EQ,
+        limit: b"1",
+    },
+    Case {
+        name: "the greatest unsigned number is less than a signed 0",
+        x: Source {
+            code: ULONG,
+            start: &[0xFF, 0xFF, 0xFF, 0xFF],
+        },
+        y: Source {
+            code: SLONG,
+            start: &[0x00, 0x00, 0x00, 0x00],
+        },
+        d: UBYTE,
+        code: &LT,
+        limit: b"1",
+    },
+    Case {
+        name: "equal numbers are not greater",
+        x: Source {
+            code: SLONG,
+            start: &[0xFB, 0xFF, 0xFF, 0xFF],
+        },
+        y: Source {
+            code: SBYTE,
+            start: &[0xFB],
+        },
+        d: UBYTE,
+        code: &GT,
+        limit: b"0",
+    },
+    Case {
+        name: "equal numbers are at most as great",
+        x: Source {
+            code: SLONG,
+            start: &[0xFB, 0xFF, 0xFF, 0xFF],
+        },
+        y: Source {
+            code: SBYTE,
+            start: &[0xFB],
+        },
+        d: UBYTE,
+        code: &LTEQ,
+        limit: b"1",
+    },
+    Case {
+        name: "equal numbers are at least as great",
+        x: Source {
+            code: SLONG,
+            start: &[0xFB, 0xFF, 0xFF, 0xFF],
+        },
+        y: Source {
+            code: SBYTE,
+            start: &[0xFB],
+        },
+        d: UBYTE,
+        code: &GTEQ,
+        limit: b"1",
+    },
+    Case {
+        name: "equal numbers do not differ",
+        x: Source {
+            code: SLONG,
+            start: &[0xFB, 0xFF, 0xFF, 0xFF],
+        },
+        y: Source {
+            code: SBYTE,
+            start: &[0xFB],
+        },
+        d: UBYTE,
+        code: &NEQ,
+        limit: b"0",
+    },
+    Case {
+        name: "a jump to the next statement",
+        x: Source {
+            code: UBYTE,
+            start: &[0x00],
+        },
+        y: Source {
+            code: UBYTE,
+            start: &[0x00],
+        },
+        d: UBYTE,
+        code: &[0x4025, 2, 0x601C, D, 7],
+        limit: b"7",
+    },
+    Case {
+        name: "a jump over a statement",
+        x: Source {
+            code: UBYTE,
+            start: &[0x00],
+        },
+        y: Source {
+            code: UBYTE,
+            start: &[0x00],
+        },
+        d: UBYTE,
+        code: &[0x601C, D, 7, 0x4025, 5, 0x601C, D, 9],
+        limit: b"7",
+    },
+    Case {
+        name: "a branch backward until the sum is 10",
+        x: Source {
+            code: UBYTE,
+            start: &[0x01],
+        },
+        y: Source {
+            code: UBYTE,
+            start: &[0x0A],
+        },
+        d: UWORD,
+        code: &[0x8000, D, D, X, 0x8026, 0xFFFC, D, Y],
+        limit: b"10",
+    },
+    Case {
+        name: "a stop of 0 goes on",
+        x: Source {
+            code: UBYTE,
+            start: &[0x00],
+        },
+        y: Source {
+            code: UBYTE,
+            start: &[0x00],
+        },
+        d: UBYTE,
+        code: &[0x601C, D, 7, 0x4029, X],
+        limit: b"7",
+    },
+];
+
 #[test]
 fn statements_at_their_edges(rt: HostRuntime) -> Result<(), Fail> {
     let alloc = rt.alloc();
     let words = run_words(alloc)?;
-    for case in &[
-        Case {
-            name: "an sbyte 0x80 moved to a ulong keeps its sign",
-            x: Source {
-                code: SBYTE,
-                start: &[0x80],
-            },
-            y: Source {
-                code: UBYTE,
-                start: &[0x00],
-            },
-            d: ULONG,
-            code: &MOV,
-            limit: b"4294967168",
-        },
-        Case {
-            name: "a ubyte 0x80 moved to an slong has none",
-            x: Source {
-                code: UBYTE,
-                start: &[0x80],
-            },
-            y: Source {
-                code: UBYTE,
-                start: &[0x00],
-            },
-            d: SLONG,
-            code: &MOV,
-            limit: b"128",
-        },
-        Case {
-            name: "65535 moved to an sword is -1",
-            x: Source {
-                code: UWORD,
-                start: &[0xFF, 0xFF],
-            },
-            y: Source {
-                code: UBYTE,
-                start: &[0x00],
-            },
-            d: SWORD,
-            code: &MOV,
-            limit: b"4294967295",
-        },
-        Case {
-            name: "an slong is cut to a ubyte",
-            x: Source {
-                code: SLONG,
-                start: &[0xFF, 0xFF, 0xFF, 0xFF],
-            },
-            y: Source {
-                code: UBYTE,
-                start: &[0x00],
-            },
-            d: UBYTE,
-            code: &MOV,
-            limit: b"255",
-        },
-        Case {
-            name: "a set of 65535 to an sword is -1",
-            x: Source {
-                code: UBYTE,
-                start: &[0x00],
-            },
-            y: Source {
-                code: UBYTE,
-                start: &[0x00],
-            },
-            d: SWORD,
-            code: &[0x601C, D, 65535],
-            limit: b"4294967295",
-        },
-        Case {
-            name: "a set of 65535 to a ulong is 65535",
-            x: Source {
-                code: UBYTE,
-                start: &[0x00],
-            },
-            y: Source {
-                code: UBYTE,
-                start: &[0x00],
-            },
-            d: ULONG,
-            code: &[0x601C, D, 65535],
-            limit: b"65535",
-        },
-        Case {
-            name: "a sum of unsigned numbers wraps",
-            x: Source {
-                code: ULONG,
-                start: &[0xFF, 0xFF, 0xFF, 0xFF],
-            },
-            y: Source {
-                code: UBYTE,
-                start: &[0x02],
-            },
-            d: ULONG,
-            code: &ADD,
-            limit: b"1",
-        },
-        Case {
-            name: "a sum of signed numbers wraps",
-            x: Source {
-                code: SLONG,
-                start: &[0xFF, 0xFF, 0xFF, 0x7F],
-            },
-            y: Source {
-                code: UBYTE,
-                start: &[0x01],
-            },
-            d: SLONG,
-            code: &ADD,
-            limit: b"2147483648",
-        },
-        Case {
-            name: "a sum is cut to its destination",
-            x: Source {
-                code: UWORD,
-                start: &[0xFF, 0xFF],
-            },
-            y: Source {
-                code: UBYTE,
-                start: &[0x01],
-            },
-            d: UWORD,
-            code: &ADD,
-            limit: b"0",
-        },
-        Case {
-            name: "a signed number is less than an unsigned one",
-            x: Source {
-                code: SBYTE,
-                start: &[0xFF],
-            },
-            y: Source {
-                code: UBYTE,
-                start: &[0x00],
-            },
-            d: UBYTE,
-            code: &LT,
-            limit: b"1",
-        },
-        Case {
-            name: "the greatest unsigned number is not less than 0",
-            x: Source {
-                code: ULONG,
-                start: &[0xFF, 0xFF, 0xFF, 0xFF],
-            },
-            y: Source {
-                code: UBYTE,
-                start: &[0x00],
-            },
-            d: UBYTE,
-            code: &LT,
-            limit: b"0",
-        },
-        Case {
-            name: "-1 equals the greatest unsigned number",
-            x: Source {
-                code: SBYTE,
-                start: &[0xFF],
-            },
-            y: Source {
-                code: ULONG,
-                start: &[0xFF, 0xFF, 0xFF, 0xFF],
-            },
-            d: UBYTE,
-            code: &EQ,
-            limit: b"1",
-        },
-        Case {
-            name: "the greatest unsigned number is less than a signed 0",
-            x: Source {
-                code: ULONG,
-                start: &[0xFF, 0xFF, 0xFF, 0xFF],
-            },
-            y: Source {
-                code: SLONG,
-                start: &[0x00, 0x00, 0x00, 0x00],
-            },
-            d: UBYTE,
-            code: &LT,
-            limit: b"1",
-        },
-        Case {
-            name: "equal numbers are not greater",
-            x: Source {
-                code: SLONG,
-                start: &[0xFB, 0xFF, 0xFF, 0xFF],
-            },
-            y: Source {
-                code: SBYTE,
-                start: &[0xFB],
-            },
-            d: UBYTE,
-            code: &GT,
-            limit: b"0",
-        },
-        Case {
-            name: "equal numbers are at most as great",
-            x: Source {
-                code: SLONG,
-                start: &[0xFB, 0xFF, 0xFF, 0xFF],
-            },
-            y: Source {
-                code: SBYTE,
-                start: &[0xFB],
-            },
-            d: UBYTE,
-            code: &LTEQ,
-            limit: b"1",
-        },
-        Case {
-            name: "equal numbers are at least as great",
-            x: Source {
-                code: SLONG,
-                start: &[0xFB, 0xFF, 0xFF, 0xFF],
-            },
-            y: Source {
-                code: SBYTE,
-                start: &[0xFB],
-            },
-            d: UBYTE,
-            code: &GTEQ,
-            limit: b"1",
-        },
-        Case {
-            name: "equal numbers do not differ",
-            x: Source {
-                code: SLONG,
-                start: &[0xFB, 0xFF, 0xFF, 0xFF],
-            },
-            y: Source {
-                code: SBYTE,
-                start: &[0xFB],
-            },
-            d: UBYTE,
-            code: &NEQ,
-            limit: b"0",
-        },
-        Case {
-            name: "a jump to the next statement",
-            x: Source {
-                code: UBYTE,
-                start: &[0x00],
-            },
-            y: Source {
-                code: UBYTE,
-                start: &[0x00],
-            },
-            d: UBYTE,
-            code: &[0x4025, 2, 0x601C, D, 7],
-            limit: b"7",
-        },
-        Case {
-            name: "a jump over a statement",
-            x: Source {
-                code: UBYTE,
-                start: &[0x00],
-            },
-            y: Source {
-                code: UBYTE,
-                start: &[0x00],
-            },
-            d: UBYTE,
-            code: &[0x601C, D, 7, 0x4025, 5, 0x601C, D, 9],
-            limit: b"7",
-        },
-        Case {
-            name: "a branch backward until the sum is 10",
-            x: Source {
-                code: UBYTE,
-                start: &[0x01],
-            },
-            y: Source {
-                code: UBYTE,
-                start: &[0x0A],
-            },
-            d: UWORD,
-            code: &[0x8000, D, D, X, 0x8026, 0xFFFC, D, Y],
-            limit: b"10",
-        },
-        Case {
-            name: "a stop of 0 goes on",
-            x: Source {
-                code: UBYTE,
-                start: &[0x00],
-            },
-            y: Source {
-                code: UBYTE,
-                start: &[0x00],
-            },
-            d: UBYTE,
-            code: &[0x601C, D, 7, 0x4029, X],
-            limit: b"7",
-        },
-    ] {
+    for case in &CASES {
         let name = case.name;
         let program = image(alloc, case)?;
         let ended = command(
@@ -421,26 +423,28 @@ fn statements_at_their_edges(rt: HostRuntime) -> Result<(), Fail> {
     Ok(())
 }
 
+const ZERO: Source<'static> = Source {
+    code: UBYTE,
+    start: &[0],
+};
+
+const MINUS_ONE: Source<'static> = Source {
+    code: SBYTE,
+    start: &[0xFF],
+};
+
 // A stop ends the program before what stands behind it.
 #[test]
 fn stops(rt: HostRuntime) -> Result<(), Fail> {
     let alloc = rt.alloc();
     let words = run_words(alloc)?;
-    let zero = Source {
-        code: UBYTE,
-        start: &[0],
-    };
-    let minus_one = Source {
-        code: SBYTE,
-        start: &[0xFF],
-    };
     let of_x: &[u16] = &[0x4029, X];
     let left_out: &[u16] = &[0x4029, 0xFFFF];
-    for (x, code) in [(minus_one, of_x), (zero, left_out)] {
+    for (x, code) in [(MINUS_ONE, of_x), (ZERO, left_out)] {
         let case = Case {
             name: "stop",
             x,
-            y: zero,
+            y: ZERO,
             d: UBYTE,
             code,
             limit: b"",

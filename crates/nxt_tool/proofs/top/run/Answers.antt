@@ -1,16 +1,11 @@
 -- What is due to a program, by how far it was read.
-use Rattle.std.proofs.Common.{◌≡◌, ℕ, ◌≤◌, ◌∙◌, List, Option, Some, Err, ap, subst, length}
-use Rattle.std.specs.Prelude.{IfSome}
+use Rattle.std.proofs.Common.{◌≡◌, ℕ, ◌≤◌, ◌∙◌, List, Err, ap, subst, length}
 use Rattle.nxt_edge.proofs.Known.{Consumes-longer}
 use Rattle.nxt_tool.specs.Accepted.{IsAcceptedAs, IsRefused, HasCause}
 use Rattle.nxt_tool.specs.Due.{ReadsScript, answer_to, refused_answer}
 use Rattle.nxt_tool.specs.declared.accept.AcceptFault.TheVariants.{Refused}
-use Rattle.nxt_tool.proofs.Statuses.{long_list, run_on, accepted_run, refused_run, unread_run, no_memory_run}
+use Rattle.nxt_tool.proofs.Statuses.{long_list, read_is, run_on, accepted_run, refused_run, unread_run, no_memory_run}
 use Rattle.nxt_tool.proofs.top.run.Goals as goal
-
--- the bytes that were read are those that the program had
-read_is : (left : Option (List ℕ)) (b bytes : List ℕ) → left ≡ Some b → IfSome left (λ l. bytes ≡ l) → bytes ≡ b
-read_is left b bytes e h = subst (λ (o : Option (List ℕ)). IfSome o (λ l. bytes ≡ l)) e h
 
 pub returns-in-Err-clause-told : goal.returns-in-Err-clause-told
 returns-in-Err-clause-told g c = λ b s bytes program script.

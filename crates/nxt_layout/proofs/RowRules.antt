@@ -1,0 +1,530 @@
+-- Each pass over a file's rows finds the first place where its rule is broken.
+use Rattle.std.proofs.Common.{◌≡◌, ℕ, zero, suc, ◌+◌, ◌-◌, ◌*◌, ◌≤◌, ◌<◌, Bool, true, false, cond, ◌&&◌, ◌||◌, not, ◌==◌, nat_lt, nat_le, List, [], ◌∷◌, map, find, flat_map, option_map, IsTrue, Option, Some, None, if◌then◌else◌, inl, inr, refl, sym, ap, ap₂, ◌∙◌, subst, arith, true≢false, lt-ltb, ltb-true, eq-eqb, eqb-true, ne_eqb}
+use Rattle.std.specs.List.{list_any}
+use Rattle.std.proofs.lemmas.Bool.{and_parts, and_from, or_left, or_right, cases_lt}
+use Rattle.std.proofs.lemmas.List.Folds.{list_any-append}
+use Rattle.std.proofs.lemmas.Map.Views.{any-filter_same}
+use Rattle.nxt_types.specs.declared.kind.Kind.{Kind}
+use Rattle.nxt_types.specs.declared.kind.Kind.TheVariants.{Ubyte, Sbyte, Uword, Sword, Ulong, Slong}
+use Rattle.nxt_types.specs.declared.shape.TocEntry.{TocEntry}
+use Rattle.nxt_types.specs.Refusals.{passes, comes_first}
+use Rattle.nxt_types.specs.Shapes.{Shape, Void, Number, Array, Cluster, Mutex, Members, no_members, member, has_list, some_list, code_of, outline, spelling, spellings}
+use Rattle.nxt_rxe.specs.declared.parts.Header.{Header}
+use Rattle.nxt_rxe.specs.declared.parts.Parts.{Parts}
+use Rattle.nxt_model.specs.Reading.{row_count}
+use Rattle.nxt_layout.specs.declared.fault.LayoutFault.{LayoutFault}
+use Rattle.nxt_layout.specs.declared.fault.LayoutFault.TheVariants.{RowZero}
+use Rattle.nxt_layout.specs.declared.leaves.Leaf as flats
+use Rattle.nxt_layout.specs.declared.spans.Span.{Span}
+use Rattle.nxt_layout.specs.Leaves.{Leaf, AreShapes, leaf_of, extent, leaves}
+use Rattle.nxt_layout.specs.Rows.{Ground, row, row_end, has_elements, is_placed, is_strided, is_strided_by, is_array, reached_through, reached, arrays_of, is_full}
+use Rattle.nxt_layout.specs.RowPasses.{Through, bare_ground, extent_in, array_leaves, through_from, times, all_rows, first_beyond, first_below, least, misstrided_in, is_full_in, spans_share, first_spans, SpansRise, table_span, row_span, spans_from, spans_of}
+use Rattle.nxt_layout.specs.LayoutRules.{has_table, lacks_table, names_no_row, is_shared, is_missstrided, is_row_misplaced, place_of_row, end_of_row, rows_share_a_byte}
+use Rattle.nxt_layout.specs.Start.{ground}
+use Rattle.nxt_layout.specs.Layouts.{spells_array, ground_in, arrays_in, rows_fault, row_fault}
+use Rattle.nxt_layout.proofs.Each.{tally, tally_is}
+use Rattle.nxt_layout.proofs.LeafLemmas.{Rising, table_rises, table_leaves, first_entry, first_leaf_passes, first_leaf_least, no_leaf_passes}
+use Rattle.nxt_layout.proofs.LeafOrder.{rising_filter}
+use Rattle.nxt_layout.proofs.RowCounts.{is_it}
+use Rattle.nxt_layout.proofs.Starting.{same_dataspace}
+use Rattle.nxt_layout.proofs.StartSize.{reached_below}
+use Rattle.nxt_layout.proofs.Twice.{AreAlike, any_is, alike_any, alike_all, alike_two}
+use Rattle.nxt_layout.proofs.Reached.{few_rows, few_through, leaf_rows_alike, all_rows_alike, beyond_same}
+use Rattle.nxt_layout.proofs.Scanned.{bare, through_is}
+use Rattle.nxt_layout.proofs.Leading.{each_among, least_among, least_found}
+use Rattle.nxt_layout.proofs.SpanLemmas.{SpansShare, share_from, first_spans_pass, first_spans_least, no_spans_pass}
+
+-- ---- arrays
+
+array_code : (k : Kind) → (code_of k == 7) ≡ false
+array_code Ubyte = refl
+array_code Sbyte = refl
+array_code Uword = refl
+array_code Sword = refl
+array_code Ulong = refl
+array_code Slong = refl
+
+abbrev begins_array : ℕ × ℕ → Bool
+begins_array o = o.0 == 7
+
+mutual
+  one_spells : (s : Shape) → list_any begins_array (spelling s) ≡ has_list s
+  one_spells Void = refl
+  one_spells (Number k) = ap (λ b. b || false) (array_code k)
+  one_spells (Array n s) = refl
+  one_spells (Cluster ss) = all_spell ss
+  one_spells Mutex = refl
+
+  all_spell : (ss : Members) → list_any begins_array (spellings ss) ≡ some_list ss
+  all_spell no_members = refl
+  all_spell (member s ss) =
+      list_any-append begins_array (spelling s) (spellings ss)
+      ∙ ap₂ (λ (a b : Bool). a || b) (one_spells s) (all_spell ss)
+
+any_outline : (es : List TocEntry) → spells_array es ≡ list_any begins_array (map outline es)
+any_outline [] = refl
+any_outline (e ∷ es) = ap (λ b. (e.code == 7) || b) (any_outline es)
+
+-- a table spells an array where its variables have a list
+pub arrays_same : (table : List TocEntry) (ss : Members) → AreShapes table ss → spells_array table ≡ some_list ss
+arrays_same table ss h = any_outline table ∙ ap (list_any begins_array) h.spelled.entries ∙ all_spell ss
+
+-- ---- what is found first
+
+-- the least number that passes the test, or none does
+pub record IsFirst (test : ℕ → Bool) (o : Option ℕ) : Type 0 where
+  pub here : (w : ℕ) → o ≡ Some w → test w ≡ true
+  pub least : (w v : ℕ) → o ≡ Some w → test v ≡ true → w ≤ v
+  pub none : (v : ℕ) → o ≡ None → test v ≡ true → ⊥
+
+-- the pair that comes first of those that pass the test, or none does
+pub record IsFirstPair (test : ℕ → ℕ → Bool) (o : Option (ℕ × ℕ)) : Type 0 where
+  pub here : (w : ℕ × ℕ) → o ≡ Some w → test w.0 w.1 ≡ true
+  pub least : (w : ℕ × ℕ) (q r : ℕ) → o ≡ Some w → test q r ≡ true → IsTrue (comes_first (w.0 ∷ w.1 ∷ []) (q ∷ r ∷ []))
+  pub none : (q r : ℕ) → o ≡ None → test q r ≡ true → ⊥
+
+-- by another test that agrees
+first_alike : (f h : ℕ → Bool) (o : Option ℕ) → ((r : ℕ) → f r ≡ h r) → IsFirst f o → IsFirst h o
+first_alike f h o same first =
+    record {
+      here = λ w e. sym (same w) ∙ first.here w e;
+      least = λ w v e t. first.least w v e (same v ∙ t);
+      none = λ v e t. first.none v e (same v ∙ t);
+    }
+
+module _ (test : ℕ → Bool) where
+  -- what is found passes
+  found_passes : (r n w : ℕ) → first_below test r n ≡ Some w → test w ≡ true
+  found_passes r zero w e = cc
+  found_passes r (suc n) w e = at (test r) refl (found_passes (r + 1) n w)
+    where
+      at : (b : Bool) → test r ≡ b → (first_below test (r + 1) n ≡ Some w → test w ≡ true) → test w ≡ true
+      at true f ih =
+          let s : Some r ≡ Some w = sym (ap (λ b. if b then Some r else first_below test (r + 1) n) f) ∙ e in
+          let same : r ≡ w = cc in
+          ap test (sym same) ∙ f
+      at false f ih = ih (sym (ap (λ b. if b then Some r else first_below test (r + 1) n) f) ∙ e)
+
+  -- where a number passes, one up to it is found
+  found_before : (r n v : ℕ) → test v ≡ true → r ≤ v → v < r + n → (w : ℕ) × (first_below test r n ≡ Some w) × (w ≤ v)
+  found_before r zero v h low high = absurd (omega (arith, low, high))
+  found_before r (suc n) v h low high = at (test r) refl (found_before (r + 1) n v h)
+    where
+      at : (b : Bool) → test r ≡ b → (r + 1 ≤ v → v < r + 1 + n → (w : ℕ) × (first_below test (r + 1) n ≡ Some w) × (w ≤ v)) → (w : ℕ) × (first_below test r (suc n) ≡ Some w) × (w ≤ v)
+      at true f ih = (r, ap (λ b. if b then Some r else first_below test (r + 1) n) f, low)
+      at false f ih =
+          elim (cases_lt r v) [
+            | inl less ↦ let x = ih (omega (arith, less)) (omega (arith, high)) in
+                (x.0, ap (λ b. if b then Some r else first_below test (r + 1) n) f ∙ x.1, x.2)
+            | inr more ↦ let same : v ≡ r = omega (arith, low, more) in absurd (true≢false (sym h ∙ ap test same ∙ f))
+          ]
+
+  -- where only numbers below n pass
+  first_in : (n : ℕ) → ((v : ℕ) → test v ≡ true → v < n) → IsFirst test (first_below test 0 n)
+  first_in n below =
+      record {
+        here = λ w e. found_passes 0 n w e;
+        least = λ w v e h.
+            let x = found_before 0 n v h (omega arith) (omega (arith, below v h)) in
+            let s : Some w ≡ Some x.0 = sym e ∙ x.1 in
+            let same : w ≡ x.0 = cc in
+            omega (arith, same, x.2);
+        none = λ v e h.
+            let x = found_before 0 n v h (omega arith) (omega (arith, below v h)) in
+            let s : None ≡ Some x.0 = sym e ∙ x.1 in cc;
+      }
+
+-- ---- what the passes go over
+
+-- what is found through the arrays, where each row is kept at most twice
+abbrev pub few : Ground → List Through
+few g = map (few_through g) (arrays_of g)
+
+pub same_ground : (p : Parts) (plain : Members) → AreShapes p.toc plain → ground_in p ≡ bare (ground p plain)
+same_ground p plain shapes =
+    ap (λ bytes. bare_ground bytes p.header.dope_at p.header.static_size) (same_dataspace p plain shapes)
+
+pub same_arrays : (p : Parts) (plain : Members) → AreShapes p.toc plain → arrays_in p ≡ few (ground p plain)
+same_arrays p plain shapes =
+    ap₂
+    (λ (g : Ground) (ls : List flats.Leaf). through_from g (extent_in ls) [] (array_leaves ls))
+    (same_ground p plain shapes)
+    (table_leaves p.toc plain shapes)
+    ∙ through_is p plain shapes
+
+-- the tests need the bytes alone
+bare_table : (h : Header) (g : Ground) → has_table h (bare g) ≡ has_table h g
+bare_table h g = refl
+
+bare_rows : (g : Ground) (ts : List Through) → rows_fault (bare g) ts ≡ rows_fault g ts
+bare_rows g ts = refl
+
+pub rows_read : (p : Parts) (plain : Members) → AreShapes p.toc plain → row_fault p ≡ (if lacks_table p plain then Some RowZero else rows_fault (ground p plain) (few (ground p plain)))
+rows_read p plain shapes =
+    let g = ground p plain in
+    ap
+    (λ b. if b && not (has_table p.header (ground_in p)) then Some RowZero else rows_fault (ground_in p) (arrays_in p))
+    (arrays_same p.toc plain shapes)
+    ∙ ap₂
+    (λ (k : Ground) (ts : List Through). if some_list plain && not (has_table p.header k) then Some RowZero else rows_fault k ts)
+    (same_ground p plain shapes)
+    (same_arrays p plain shapes)
+    ∙ ap₂
+    (λ (b : Bool) (o : Option LayoutFault). if some_list plain && not b then Some RowZero else o)
+    (bare_table p.header g)
+    (bare_rows g (few g))
+
+pub arrays_rise : (p : Parts) (plain : Members) → Rising 0 (arrays_of (ground p plain))
+arrays_rise p plain = rising_filter (λ l. is_array l.shape) 0 (leaves p.toc plain) (table_rises p.toc plain)
+
+-- ---- rows that are reached
+
+reached_row : (g : Ground) (r : ℕ) → list_any (is_it r) (reached g) ≡ true → r < row_count g.memory
+reached_row g r h = each_among (λ q. q < row_count g.memory) (reached g) r (reached_below g) h
+
+full_row : (g : Ground) (r : ℕ) → is_full g r ≡ true → r < row_count g.memory
+full_row g r h = reached_row g r (and_parts (list_any (is_it r) (reached g)) (has_elements g r) h).0
+
+pub full_same : (g : Ground) (r : ℕ) → is_full_in g (all_rows (few g)) r ≡ is_full g r
+full_same g r =
+    ap
+    (λ b. b && has_elements g r)
+    (alike_any (is_it r) (all_rows (few g)) (reached g) (all_rows_alike g (arrays_of g)))
+
+-- ---- numbers past the table's rows
+
+abbrev pub beyond_at : Ground → Option ℕ
+beyond_at g = first_beyond (few g)
+
+beyond_entry : (g : Ground) (ls : List Leaf) → first_beyond (map (few_through g) ls) ≡ first_entry (names_no_row g) ls
+beyond_entry g [] = refl
+beyond_entry g (l ∷ ls) =
+    ap
+    (λ b. option_map (λ (t : Through). t.entry) (cond b (Some (few_through g l)) (find (λ t. t.beyond) (map (few_through g) ls))))
+    (beyond_same g l)
+    ∙ at (names_no_row g l) (beyond_entry g ls)
+  where
+    at : (b : Bool) → first_beyond (map (few_through g) ls) ≡ first_entry (names_no_row g) ls →
+        option_map (λ (t : Through). t.entry) (cond b (Some (few_through g l)) (find (λ t. t.beyond) (map (few_through g) ls))) ≡ option_map (λ (k : Leaf). k.entry) (cond b (Some l) (find (names_no_row g) ls))
+    at true h = refl
+    at false h = h
+
+pub beyond_first : (g : Ground) → Rising 0 (arrays_of g) → IsFirst (λ e. passes (names_no_row g) (leaf_of (arrays_of g) e)) (beyond_at g)
+beyond_first g rise =
+    let ls = arrays_of g in
+    let same = beyond_entry g ls in
+    record {
+      here = λ w e. first_leaf_passes (names_no_row g) ls w rise (sym same ∙ e);
+      least = λ w v e h. first_leaf_least (names_no_row g) ls w v rise (sym same ∙ e) h;
+      none = λ v e h. no_leaf_passes (names_no_row g) ls v rise (sym same ∙ e) h;
+    }
+
+-- ---- rows that two lists name
+
+abbrev pub shared_at : Ground → Option ℕ
+shared_at g = first_below (λ r. nat_lt 1 (times r (all_rows (few g)))) 0 (row_count g.memory)
+
+two_are_some : (n : ℕ) → nat_lt 1 n ≡ true → nat_lt 0 n ≡ true
+two_are_some n h = lt-ltb 0 n (omega (arith, ltb-true 1 n h))
+
+shared_row : (g : Ground) (r : ℕ) → is_shared g r ≡ true → r < row_count g.memory
+shared_row g r h =
+    let two : nat_lt 1 (tally (is_it r) (reached g)) ≡ true = sym (ap (nat_lt 1) (tally_is (is_it r) (reached g))) ∙ h in
+    reached_row g r (any_is (is_it r) (reached g) ∙ two_are_some (tally (is_it r) (reached g)) two)
+
+pub shared_first : (g : Ground) → IsFirst (is_shared g) (shared_at g)
+shared_first g =
+    let test = λ (r : ℕ). nat_lt 1 (times r (all_rows (few g))) in
+    let same : (r : ℕ) → test r ≡ is_shared g r =
+    λ r. alike_two (is_it r) (all_rows (few g)) (reached g) (all_rows_alike g (arrays_of g)) in
+    first_alike test (is_shared g) (shared_at g) same (first_in test (row_count g.memory) (λ v h. shared_row g v (sym (same v) ∙ h)))
+
+-- ---- rows whose stride isn't their entry's
+
+abbrev pub misstrided_at : Ground → Option ℕ
+misstrided_at g = least (flat_map (misstrided_in g) (few g))
+
+strided_alike : (g : Ground) (bytes : ℕ) (xs ys : List ℕ) → AreAlike xs ys → (r : ℕ) → is_strided_by g bytes xs r ≡ is_strided_by g bytes ys r
+strided_alike g bytes xs ys h r =
+    ap
+    (λ b. not (has_elements g r) || (nat_le bytes (row g r).stride && b))
+    (alike_all (λ q. not (nat_lt q r && has_elements g q) || ((row g q).stride == (row g r).stride)) xs ys h)
+
+and_swapped : (a b : Bool) → (a && b) ≡ (b && a)
+and_swapped true true = refl
+and_swapped true false = refl
+and_swapped false true = refl
+and_swapped false false = refl
+
+-- of a leaf
+abbrev is_odd_at : Ground → ℕ → Leaf → Bool
+is_odd_at g r l =
+    list_any (is_it r) (reached_through g l) && not (is_strided g l.entry (reached_through g l) r)
+
+odd_through : (g : Ground) (r : ℕ) (l : Leaf) → list_any (is_it r) (misstrided_in g (few_through g l)) ≡ is_odd_at g r l
+odd_through g r l =
+    let bytes = extent g.leaves l.entry in
+    let rows = few_rows g l.entry l.arrays in
+    let alike = leaf_rows_alike g l in
+    any-filter_same
+    (is_it r)
+    (λ q. not (is_strided_by g bytes rows q))
+    (not (is_strided_by g bytes rows r))
+    (λ q e. ap (λ k. not (is_strided_by g bytes rows k)) (eqb-true q r e))
+    rows
+    ∙ ap₂
+    (λ (a b : Bool). not a && b)
+    (strided_alike g bytes rows (reached_through g l) alike r)
+    (alike_any (is_it r) rows (reached_through g l) alike)
+    ∙ and_swapped (not (is_strided g l.entry (reached_through g l) r)) (list_any (is_it r) (reached_through g l))
+
+odd_among : (g : Ground) (r : ℕ) (ls : List Leaf) → list_any (is_it r) (flat_map (misstrided_in g) (map (few_through g) ls)) ≡ list_any (is_odd_at g r) ls
+odd_among g r [] = refl
+odd_among g r (l ∷ ls) =
+    list_any-append (is_it r) (misstrided_in g (few_through g l)) (flat_map (misstrided_in g) (map (few_through g) ls))
+    ∙ ap₂ (λ (a b : Bool). a || b) (odd_through g r l) (odd_among g r ls)
+
+pub misstrided_first : (g : Ground) → IsFirst (is_missstrided g) (misstrided_at g)
+misstrided_first g =
+    let rows = flat_map (misstrided_in g) (few g) in
+    let same : (r : ℕ) → list_any (is_it r) rows ≡ is_missstrided g r = λ r. odd_among g r (arrays_of g) in
+    record {
+      here = λ w e. sym (same w) ∙ least_among rows w e;
+      least = λ w v e h.
+          let x = least_found rows v (same v ∙ h) in
+          let s : Some w ≡ Some x.0 = sym e ∙ x.1 in
+          let one : w ≡ x.0 = cc in
+          omega (arith, one, x.2);
+      none = λ v e h.
+          let x = least_found rows v (same v ∙ h) in
+          let s : None ≡ Some x.0 = sym e ∙ x.1 in cc;
+    }
+
+-- ---- rows that are misplaced
+
+abbrev pub misplaced_at : Ground → Option ℕ
+misplaced_at g =
+    first_below (λ r. is_full_in g (all_rows (few g)) r && not (is_placed g r)) 0 (row_count g.memory)
+
+pub misplaced_first : (g : Ground) → IsFirst (is_row_misplaced g) (misplaced_at g)
+misplaced_first g =
+    let test = λ (r : ℕ). is_full_in g (all_rows (few g)) r && not (is_placed g r) in
+    let same : (r : ℕ) → test r ≡ is_row_misplaced g r = λ r. ap (λ b. b && not (is_placed g r)) (full_same g r) in
+    first_alike
+    test
+    (is_row_misplaced g)
+    (misplaced_at g)
+    same
+    (first_in
+    test
+    (row_count g.memory)
+    (λ v h. full_row g v (and_parts (is_full g v) (not (is_placed g v)) (sym (same v) ∙ h)).0))
+
+-- ---- rows that share a byte
+
+abbrev pub sharing_at : Ground → Option (ℕ × ℕ)
+sharing_at g = first_spans (spans_of g (is_full_in g (all_rows (few g))))
+
+spans_alike : (g : Ground) (f h : ℕ → Bool) → ((r : ℕ) → f r ≡ h r) → (r n : ℕ) → spans_from g f r n ≡ spans_from g h r n
+spans_alike g f h same r zero = refl
+spans_alike g f h same r (suc n) =
+    ap₂ (λ (b : Bool) (ss : List Span). if b then row_span g r ∷ ss else ss) (same r) (spans_alike g f h same (r + 1) n)
+
+-- those of the rows that are reached and have elements, and the table's
+abbrev full_spans : Ground → List Span
+full_spans g = spans_of g (is_full g)
+
+sharing_full : (g : Ground) → sharing_at g ≡ first_spans (full_spans g)
+sharing_full g =
+    ap
+    (λ ss. first_spans (table_span g ∷ ss))
+    (spans_alike g (is_full_in g (all_rows (few g))) (is_full g) (full_same g) 1 (row_count g.memory - 1))
+
+later_rise : (r : ℕ) (ss : List Span) → SpansRise (r + 1) ss → SpansRise r ss
+later_rise r [] h = tt
+later_rise r (s ∷ ss) h = (omega (arith, h.0), h.1, h.2)
+
+rows_rise : (g : Ground) (full : ℕ → Bool) (r n : ℕ) → SpansRise r (spans_from g full r n)
+rows_rise g full r zero = tt
+rows_rise g full r (suc n) = at (full r) (rows_rise g full (r + 1) n)
+  where
+    at : (b : Bool) → SpansRise (r + 1) (spans_from g full (r + 1) n) → SpansRise r (if b then row_span g r ∷ spans_from g full (r + 1) n else spans_from g full (r + 1) n)
+    at true h = (omega arith, omega arith, h)
+    at false h = later_rise r (spans_from g full (r + 1) n) h
+
+spans_rise : (g : Ground) → SpansRise 0 (full_spans g)
+spans_rise g = (omega arith, omega arith, rows_rise g (is_full g) 1 (row_count g.memory - 1))
+
+abbrev span_of : List Span → ℕ → Option Span
+span_of ss r = find (λ s. s.row == r) ss
+
+-- a full row has its span
+span_there : (g : Ground) (full : ℕ → Bool) (r n q : ℕ) → r ≤ q → q < r + n → full q ≡ true → span_of (spans_from g full r n) q ≡ Some (row_span g q)
+span_there g full r zero q low high f = absurd (omega (arith, low, high))
+span_there g full r (suc n) q low high f =
+    elim (cases_lt r q) [
+      | inl less ↦ at (full r) refl less (span_there g full (r + 1) n q (omega (arith, less)) (omega (arith, high)) f)
+      | inr more ↦ let same : r ≡ q = omega (arith, low, more) in
+          ap (λ b. span_of (if b then row_span g r ∷ spans_from g full (r + 1) n else spans_from g full (r + 1) n) q) (ap full same ∙ f)
+          ∙ ap (λ b. cond b (Some (row_span g r)) (span_of (spans_from g full (r + 1) n) q)) (eq-eqb r q same)
+          ∙ ap (λ k. Some (row_span g k)) same
+    ]
+  where
+    at : (b : Bool) → full r ≡ b → r < q → span_of (spans_from g full (r + 1) n) q ≡ Some (row_span g q) → span_of (spans_from g full r (suc n)) q ≡ Some (row_span g q)
+    at true e less ih =
+        ap (λ b. span_of (if b then row_span g r ∷ spans_from g full (r + 1) n else spans_from g full (r + 1) n) q) e
+        ∙ ap (λ b. cond b (Some (row_span g r)) (span_of (spans_from g full (r + 1) n) q)) (ne_eqb r q (λ same. omega (arith, same, less)))
+        ∙ ih
+    at false e less ih =
+        ap (λ b. span_of (if b then row_span g r ∷ spans_from g full (r + 1) n else spans_from g full (r + 1) n) q) e ∙ ih
+
+-- and what has a span is a full row
+span_full : (g : Ground) (full : ℕ → Bool) (r n q : ℕ) (s : Span) → span_of (spans_from g full r n) q ≡ Some s → (full q ≡ true) × (s ≡ row_span g q)
+span_full g full r zero q s e = let f : ⊥ = cc in absurd f
+span_full g full r (suc n) q s e = at (full r) refl (r == q) refl (span_full g full (r + 1) n q s)
+  where
+    at : (b : Bool) → full r ≡ b → (c : Bool) → (r == q) ≡ c → (span_of (spans_from g full (r + 1) n) q ≡ Some s → (full q ≡ true) × (s ≡ row_span g q)) → (full q ≡ true) × (s ≡ row_span g q)
+    at true f true same ih =
+        let one : Some (row_span g r) ≡ Some s =
+        sym (ap (λ b. span_of (if b then row_span g r ∷ spans_from g full (r + 1) n else spans_from g full (r + 1) n) q) f
+        ∙ ap (λ b. cond b (Some (row_span g r)) (span_of (spans_from g full (r + 1) n) q)) same)
+        ∙ e in
+        let it : row_span g r ≡ s = cc in
+        let at_q : r ≡ q = eqb-true r q same in
+        (ap full (sym at_q) ∙ f, sym it ∙ ap (row_span g) at_q)
+    at true f false other ih =
+        ih (sym (ap (λ b. span_of (if b then row_span g r ∷ spans_from g full (r + 1) n else spans_from g full (r + 1) n) q) f
+        ∙ ap (λ b. cond b (Some (row_span g r)) (span_of (spans_from g full (r + 1) n) q)) other)
+        ∙ e)
+    at false f c d ih =
+        ih (sym (ap (λ b. span_of (if b then row_span g r ∷ spans_from g full (r + 1) n else spans_from g full (r + 1) n) q) f) ∙ e)
+
+-- the bytes of a row, or of the table, have this span
+record Stands (g : Ground) (q : ℕ) (s : Span) : Type 0 where
+  place : s.place ≡ place_of_row g q
+  end : s.end ≡ end_of_row g q
+
+stands_row : (g : Ground) (q : ℕ) → (q == 0) ≡ false → Stands g q (row_span g q)
+stands_row g q e =
+    record {
+      place = sym (ap (λ b. if b then g.memory.table else (row g q).place) e);
+      end = sym (ap (λ b. if b then g.memory.table + 10 * row_count g.memory else row_end g q) e);
+    }
+
+stands_table : (g : Ground) (q : ℕ) → (q == 0) ≡ true → Stands g q (table_span g)
+stands_table g q e =
+    record {
+      place = sym (ap (λ b. if b then g.memory.table else (row g q).place) e);
+      end = sym (ap (λ b. if b then g.memory.table + 10 * row_count g.memory else row_end g q) e);
+    }
+
+-- the table, or a row that is full
+abbrev has_bytes : Ground → ℕ → Bool
+has_bytes g q = (q == 0) || is_full g q
+
+record Shown (g : Ground) (q : ℕ) : Type 0 where
+  span : Span
+  is : span_of (full_spans g) q ≡ Some span
+  stands : Stands g q span
+
+-- the spans of the rows behind the table
+abbrev row_spans : Ground → List Span
+row_spans g = spans_from g (is_full g) 1 (row_count g.memory - 1)
+
+past_table : (g : Ground) (q : ℕ) → (q == 0) ≡ false → span_of (full_spans g) q ≡ span_of (row_spans g) q
+past_table g q e =
+    let other : (0 == q) ≡ false = ne_eqb 0 q (λ same. true≢false (sym (eq-eqb q 0 (sym same)) ∙ e)) in
+    ap (λ b. cond b (Some (table_span g)) (span_of (row_spans g) q)) other
+
+at_table : (g : Ground) (q : ℕ) → (q == 0) ≡ true → span_of (full_spans g) q ≡ Some (table_span g)
+at_table g q e =
+    ap
+    (λ b. cond b (Some (table_span g)) (span_of (row_spans g) q))
+    (eq-eqb 0 q (sym (eqb-true q 0 e)))
+
+some_row : (q : ℕ) → (q == 0) ≡ false → 0 < q
+some_row zero e = let f : ⊥ = cc in absurd f
+some_row (suc q) e = omega arith
+
+shown : (g : Ground) (q : ℕ) → has_bytes g q ≡ true → Shown g q
+shown g q h = at (q == 0) refl h
+  where
+    at : (b : Bool) → (q == 0) ≡ b → (b || is_full g q) ≡ true → Shown g q
+    at true e h = record { span = table_span g; is = at_table g q e; stands = stands_table g q e }
+    at false e h =
+        let some : 0 < q = some_row q e in
+        let within : q < row_count g.memory = full_row g q h in
+        record {
+          span = row_span g q;
+          is = past_table g q e ∙ span_there g (is_full g) 1 (row_count g.memory - 1) q (omega (arith, some)) (omega (arith, some, within)) h;
+          stands = stands_row g q e;
+        }
+
+shown_back : (g : Ground) (q : ℕ) (s : Span) → span_of (full_spans g) q ≡ Some s → (has_bytes g q ≡ true) × Stands g q s
+shown_back g q s h = at (q == 0) refl
+  where
+    at : (b : Bool) → (q == 0) ≡ b → (has_bytes g q ≡ true) × Stands g q s
+    at true e =
+        let one : Some (table_span g) ≡ Some s = sym (at_table g q e) ∙ h in
+        let it : table_span g ≡ s = cc in
+        (or_left (q == 0) (is_full g q) e, subst (Stands g q) it (stands_table g q e))
+    at false e =
+        let x = span_full g (is_full g) 1 (row_count g.memory - 1) q s (sym (past_table g q e) ∙ h) in
+        (or_right (q == 0) (is_full g q) x.0, subst (Stands g q) (sym x.1) (stands_row g q e))
+
+share_same : (g : Ground) (q r : ℕ) (a b : Span) → Stands g q a → Stands g r b → spans_share a b ≡ (nat_lt (place_of_row g q) (end_of_row g r) && nat_lt (place_of_row g r) (end_of_row g q))
+share_same g q r a b x y =
+    ap₂ (λ (m n : Bool). m && n) (ap₂ nat_lt x.place y.end) (ap₂ nat_lt y.place x.end)
+
+five_parts : (a b c d e : Bool) → (a && b && c && d && e) ≡ true → (a ≡ true) × (b ≡ true) × (c ≡ true) × (d ≡ true) × (e ≡ true)
+five_parts true true true true true h = (refl, refl, refl, refl, refl)
+five_parts true true true true false h = let f : ⊥ = cc in absurd f
+five_parts true true true false e h = let f : ⊥ = cc in absurd f
+five_parts true true false d e h = let f : ⊥ = cc in absurd f
+five_parts true false c d e h = let f : ⊥ = cc in absurd f
+five_parts false b c d e h = let f : ⊥ = cc in absurd f
+
+five_from : (a b c d e : Bool) → a ≡ true → b ≡ true → c ≡ true → d ≡ true → e ≡ true → (a && b && c && d && e) ≡ true
+five_from a b c d e h i j k l =
+    and_from (a && b && c && d) e (and_from (a && b && c) d (and_from (a && b) c (and_from a b h i) j) k) l
+
+sharing_there : (g : Ground) (q r : ℕ) → rows_share_a_byte g q r ≡ true → SpansShare (full_spans g) q r
+sharing_there g q r h =
+    let x =
+    five_parts (nat_lt q r) (has_bytes g q) (is_full g r) (nat_lt (place_of_row g q) (end_of_row g r)) (nat_lt (place_of_row g r) (end_of_row g q)) h in
+    let a = shown g q x.1 in
+    let b = shown g r (or_right (r == 0) (is_full g r) x.2) in
+    share_from
+    (full_spans g)
+    q
+    r
+    a.span
+    b.span
+    a.is
+    b.is
+    (ltb-true q r x.0)
+    (share_same g q r a.span b.span a.stands b.stands ∙ and_from (nat_lt (place_of_row g q) (end_of_row g r)) (nat_lt (place_of_row g r) (end_of_row g q)) x.3 x.4)
+
+sharing_back : (g : Ground) (q r : ℕ) → SpansShare (full_spans g) q r → rows_share_a_byte g q r ≡ true
+sharing_back g q r x =
+    let a = shown_back g q x.first x.is_first in
+    let b = shown_back g r x.second x.is_second in
+    let rise : q < r = x.rise in
+    let full : is_full g r ≡ true = sym (ap (λ k. k || is_full g r) (ne_eqb r 0 (λ e. omega (arith, e, rise)))) ∙ b.0 in
+    let bytes =
+    and_parts
+    (nat_lt (place_of_row g q) (end_of_row g r))
+    (nat_lt (place_of_row g r) (end_of_row g q))
+    (sym (share_same g q r x.first x.second a.1 b.1) ∙ x.share)
+    in
+    five_from (nat_lt q r) (has_bytes g q) (is_full g r) (nat_lt (place_of_row g q) (end_of_row g r)) (nat_lt (place_of_row g r) (end_of_row g q)) (lt-ltb q r rise) a.0 full bytes.0 bytes.1
+
+pub sharing_first : (g : Ground) → IsFirstPair (rows_share_a_byte g) (sharing_at g)
+sharing_first g =
+    let ss = full_spans g in
+    let same = sharing_full g in
+    record {
+      here = λ w e. sharing_back g w.0 w.1 (first_spans_pass ss w (spans_rise g) (sym same ∙ e));
+      least = λ w q r e h. first_spans_least ss w q r (spans_rise g) (sym same ∙ e) (sharing_there g q r h);
+      none = λ q r e h. no_spans_pass ss q r (spans_rise g) (sym same ∙ e) (sharing_there g q r h);
+    }

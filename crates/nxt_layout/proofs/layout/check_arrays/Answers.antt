@@ -1,0 +1,16 @@
+-- The leaves' entries are below the table's end, and so are the arrays'.
+use Rattle.std.proofs.Common.{◌<◌, length, All, sym, ap, subst, arith}
+use Rattle.nxt_layout.specs.declared.leaves.Leaf.{Leaf}
+use Rattle.nxt_layout.specs.Layouts.{leaves_of}
+use Rattle.nxt_layout.proofs.ArrayLemmas.{table_below, table_few}
+use Rattle.nxt_layout.proofs.layout.check_arrays.Goals as goal
+
+pub found_arrays-requires-clause-entries : goal.found_arrays-requires-clause-entries
+found_arrays-requires-clause-entries c =
+    let p = c.args.parts.now in
+    subst (λ ls. All (λ (l : Leaf). l.entry < c.len.result) ls) (sym c.requires.leaves)
+    (subst (λ n. All (λ (l : Leaf). l.entry < n) (leaves_of p)) (sym c.len.ensures) (table_below p))
+
+pub returns-clause-count : goal.returns-clause-count
+returns-clause-count c =
+    omega (arith, c.in_ok-found.ensures.count, ap length c.requires.leaves, table_few c.args.parts.now, c.requires.count)

@@ -1,0 +1,22 @@
+-- One array less is open.
+use Rattle.std.proofs.Common.{rules, ◌≡◌, ◌≤◌, ◌^◌, All, false, ap, sym, ◌∙◌, subst, map, length}
+use Rattle.std.proofs.lemmas.List.Elements.{All-drop}
+use Rattle.nxt_layout.specs.declared.reach.OpenArray.{OpenArray}
+use Rattle.nxt_layout.specs.RowPasses.{opened, back_to, is_back}
+use Rattle.nxt_layout.proofs.Naming.{close_one}
+use Rattle.nxt_layout.proofs.reach.close.Goals as goal
+
+pub loop-array-preserved-in-loop-array : goal.loop-array-preserved-in-loop-array
+loop-array-preserved-in-loop-array c =
+    let other : is_back c.args.array (map opened c.loop-array.stack.items) ≡ false = search rules in
+    record {
+      rest =
+          ap (λ os. back_to c.args.array (map opened os)) c.pop_front-over.ensures.rest
+          ∙ close_one c.args.array c.loop-array.stack.items other
+          ∙ c.loop-array.invariant.rest;
+      few =
+          subst
+          (λ os. All (λ (o : OpenArray). length o.read.items ≤ 2 ^ 17) os)
+          (sym c.pop_front-over.ensures.rest)
+          (All-drop (λ (o : OpenArray). length o.read.items ≤ 2 ^ 17) 1 c.loop-array.stack.items c.loop-array.invariant.few);
+    }

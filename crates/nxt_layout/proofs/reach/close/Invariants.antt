@@ -1,0 +1,13 @@
+-- Arrays are taken off up to the one that is next.
+use Rattle.std.proofs.Common.{◌≡◌, ◌≤◌, ◌^◌, All, length, map}
+use Rattle.nxt_layout.specs.RowPasses.{opened, back_to}
+use Rattle.nxt_layout.proofs.reach.close.Given as goal
+
+abbrev pub invariant-loop-array : goal.invariant-loop-array
+invariant-loop-array l = record {
+  rest : back_to l.array (map opened l.stack.items) ≡ back_to l.array (map opened l.initial.stack.items);
+  few : All (λ o. length o.read.items ≤ 2 ^ 17) l.stack.items;
+}
+
+abbrev pub decreases-loop-array : goal.decreases-loop-array
+decreases-loop-array l = length l.stack.items

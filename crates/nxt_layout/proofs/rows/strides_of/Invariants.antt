@@ -1,0 +1,10 @@
+-- The arrays so far have their strides.
+use Rattle.std.proofs.Common.{◌≡◌, length, take, map}
+use Rattle.nxt_layout.specs.RowPasses.{ground_of, through, HaveStrides}
+use Rattle.nxt_layout.proofs.rows.strides_of.Given as goal
+
+abbrev pub invariant-loop-array : goal.invariant-loop-array
+invariant-loop-array l = record {
+  count : length l.strides.items ≡ l.entries;
+  strides : HaveStrides (ground_of l.space) l.strides.items (map through (take l.array-index l.arrays));
+}
