@@ -1,5 +1,6 @@
 -- Each code is refused by a first rule, or breaks none.
-use Rattle.std.proofs.Common.{◌≡◌, ℕ, zero, suc, ◌+◌, ◌<◌, ◌≤◌, Bool, true, false, List, [], ◌∷◌, ◌++◌, length, refl, sym, ap, subst, arith, ◌⊎◌, inl, inr, Option, Some, None, ltb-true, leb-true, eqb-true}
+use Rattle.std.proofs.Common.{◌≡◌, ℕ, ◌+◌, ◌<◌, ◌≤◌, Bool, true, false, List, [], ◌∷◌, ◌++◌, length, refl, ap, arith, ◌⊎◌, inl, inr, Option, Some, None, ltb-true, leb-true, eqb-true}
+use Rattle.std.proofs.lemmas.Bool.{and_parts}
 use Rattle.std.proofs.lemmas.List.Sums.{sum_by-cons}
 use Rattle.std.specs.Prelude.{IsTrue, nat_lt, nat_le, not, ◌==◌, ◌&&◌, ◌||◌, sum_by, slice_get}
 use Rattle.nxt_types.specs.Refusals.{IsRefusal, IsAccepted, comes_first, passes}
@@ -8,10 +9,6 @@ use Rattle.nxt_types.proofs.RefusalLemmas.{Among, Sorted, Behind, decided, teste
 use Rattle.nxt_code.specs.declared.fault.CodeFault.{CodeFault}
 use Rattle.nxt_code.specs.declared.fault.CodeFault.TheVariants.{ClumpCount, ClumpStart, Dependent, Instr, Operand, Jump, FallsOut, NoMemory}
 use Rattle.nxt_code.specs.CodeRules.{Program, dependent_lists, dependent_in, starts_badly, of_statement, is_due, is_spelled, leads_nowhere, is_last_at, may_go_on, is_refused_operand, breaks, Broken, rank}
-
-both : (a b : Bool) → IsTrue (a && b) → IsTrue a × IsTrue b
-both true b h = (refl, h)
-both false b h = absurd (let e : false ≡ true = h in cc)
 
 -- a test passes only where something stands
 passes_within : {X : Type 0} (size : X → ℕ) (test : X → Bool) (xs : List X) (i : ℕ) → IsTrue (passes test (slice_get xs i)) → i < length xs
@@ -27,7 +24,7 @@ extent s = s.0 + length s.1.args + 1
 last_bounded : (w : ℕ) (test : Statement → Bool) (xs : List (ℕ × Statement)) → IsTrue (is_last_at w test xs) → w < sum_by extent xs
 last_bounded w test [] h = absurd (let e : false ≡ true = h in cc)
 last_bounded w test (s ∷ []) h =
-    let same = eqb-true s.0 w (both (s.0 == w) (test s.1) h).0 in omega (arith, same, sum_by-cons extent s [])
+    let same = eqb-true s.0 w (and_parts (s.0 == w) (test s.1) h).0 in omega (arith, same, sum_by-cons extent s [])
 last_bounded w test (s ∷ t ∷ more) h =
     let rest = last_bounded w test (t ∷ more) h in omega (arith, rest, sum_by-cons extent s (t ∷ more))
 
@@ -92,22 +89,22 @@ module _ (p : Program) where
       (s : ℕ × Statement) × (s.0 ≡ w) × IsTrue (test s.1) × (extent s ≤ bound)
   at_statement w test h =
       let found = any_bounded (λ s. (s.0 == w) && test s.1) extent (statements p.words) h in
-      let parts = both (found.0.0 == w) (test found.0.1) found.1 in
+      let parts = and_parts (found.0.0 == w) (test found.0.1) found.1 in
       (found.0, eqb-true found.0.0 w parts.0, parts.1, found.2)
 
   complete : (f : CodeFault) → Broken p f → Among f candidates
-  complete (ClumpCount n) h = inl (ap ClumpCount (eqb-true n (length p.clumps) (both (n == length p.clumps) ((n == 0) || nat_lt 255 n) h).0))
+  complete (ClumpCount n) h = inl (ap ClumpCount (eqb-true n (length p.clumps) (and_parts (n == length p.clumps) ((n == 0) || nat_lt 255 n) h).0))
   complete (ClumpStart c) h = inr (among_left (ClumpStart c) (each ClumpStart 0 (length p.clumps)) from_21 (among_each ClumpStart 0 (length p.clumps) c (omega arith) (let lt = passes_within (λ r. r.start) (starts_badly p.words) p.clumps c h in omega (arith, lt))))
   complete (Dependent c k) h =
       let lt = at_dependent c k (slice_get lists c) refl (dependent_in (slice_get lists c) k) refl h in
       in_21 (Dependent c k) (among_left (Dependent c k) (grid Dependent 0 (length lists) longest) from_22 (among_grid Dependent 0 (length lists) longest c k (omega arith) (omega (arith, lt.0)) lt.1))
   complete (Instr w) h =
-      let lt = ltb-true w (length p.words) (both (is_due p.words w) (nat_lt w (length p.words)) (both (is_due p.words w && nat_lt w (length p.words)) (not (is_spelled p.words w)) h).0).1 in
+      let lt = ltb-true w (length p.words) (and_parts (is_due p.words w) (nat_lt w (length p.words)) (and_parts (is_due p.words w && nat_lt w (length p.words)) (not (is_spelled p.words w)) h).0).1 in
       in_22 (Instr w) (among_left (Instr w) (each Instr 0 (length p.words)) from_23 (among_each Instr 0 (length p.words) w (omega arith) (omega (arith, lt))))
   complete (Operand w k) h =
       let s = at_statement w (is_refused_operand p.shapes (length p.clumps) k) h in
       let n = length s.0.1.args in
-      let le = leb-true k n (both (nat_lt 0 k) (nat_le k n) (both (nat_lt 0 k && nat_le k n) _ s.2).0).1 in
+      let le = leb-true k n (and_parts (nat_lt 0 k) (nat_le k n) (and_parts (nat_lt 0 k && nat_le k n) _ s.2).0).1 in
       let at = s.1 in
       let most = s.3 in
       in_23 (Operand w k) (among_left (Operand w k) (grid Operand 0 bound bound) from_24 (among_grid Operand 0 bound bound w k (omega arith) (omega (arith, at, most)) (omega (arith, le, most))))

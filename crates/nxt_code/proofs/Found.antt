@@ -1,7 +1,7 @@
 -- The first statement that passes a test, and the last one.
 use Rattle.std.proofs.Common.{◌≡◌, ℕ, suc, ◌+◌, ◌-◌, ◌<◌, ◌≤◌, Bool, true, false, ◌&&◌, ◌||◌, ◌==◌, List, [], ◌∷◌, length, refl, sym, ap, ◌∙◌, subst, arith, Option, Some, None, map, option_map, drop, take, ◌++◌, get_or}
 use Rattle.std.specs.Prelude.{if◌then◌else◌, slice_get}
-use Rattle.std.proofs.lemmas.Bool.{eqb-true, eq-eqb, ne_eqb, and_from, and_right, or_left, or_right, or_parts, false_from_ne_true, and_parts, both_ways}
+use Rattle.std.proofs.lemmas.Bool.{eqb-true, eq-eqb, ne_eqb, and_from, and_right, or_left, or_right, or_parts, false_from_ne_true, and_parts, both_ways, or_from, and_left}
 use Rattle.std.proofs.lemmas.List.{drop_more, drop_all, length-map, take-append-drop, map-append, map_more, take_all}
 use Rattle.std.proofs.lemmas.List.Folds.{list_any-append}
 use Rattle.std.proofs.lemmas.Option.{slice_get-map}
@@ -13,6 +13,7 @@ use Rattle.nxt_code.specs.CodeRules.{end_of, is_last_at, begins}
 use Rattle.nxt_code.specs.Decoding.{placed_of, Tiles, IsDecoded}
 use Rattle.nxt_code.specs.Places.{Finds, FindsPair}
 use Rattle.std.specs.List.{list_any}
+use Rattle.std.proofs.Math.Bool.{or-false}
 use Rattle.nxt_code.proofs.Tiling.{begins_below}
 
 -- the word of the first statement that passes the test
@@ -29,18 +30,12 @@ fails_here test s w e = false_from_ne_true ((s.0 == w) && test w s.1) (λ f.
     let p = and_parts (s.0 == w) (test w s.1) f in
     both_ways (test w s.1) (subst (λ v. test v s.1 ≡ false) (eqb-true s.0 w p.0) e) p.1)
 
-or_none : (a b : Bool) → a ≡ false → b ≡ false → (a || b) ≡ false
-or_none a b e f = ap (λ x. x || b) e ∙ f
-
-and_none : (a b : Bool) → a ≡ false → (a && b) ≡ false
-and_none a b e = ap (λ x. x && b) e
-
 -- where no statement begins, none passes
 none_there : (test : ℕ → Statement → Bool) (sts : List (ℕ × Statement)) (w : ℕ) → begins sts w ≡ false → passed_at test sts w ≡ false
 none_there test [] w e = refl
 none_there test (s ∷ ss) w e =
     let p = or_parts (s.0 == w) (begins ss w) e in
-    or_none ((s.0 == w) && test w s.1) (passed_at test ss w) (and_none (s.0 == w) (test w s.1) p.0) (none_there test ss w p.1)
+    or_from ((s.0 == w) && test w s.1) (passed_at test ss w) (and_left (s.0 == w) (test w s.1) p.0) (none_there test ss w p.1)
 
 pub first_none : (test : ℕ → Statement → Bool) (sts : List (ℕ × Statement)) → first_of test sts ≡ None → (w : ℕ) → passed_at test sts w ≡ false
 first_none test [] e w = refl
@@ -48,7 +43,7 @@ first_none test (s ∷ ss) e w = by (λ g. first_none test ss g w) (test s.0 s.1
   where
     by : (first_of test ss ≡ None → passed_at test ss w ≡ false) → (b : Bool) → test s.0 s.1 ≡ b → (if b then Some s.0 else first_of test ss) ≡ None → passed_at test (s ∷ ss) w ≡ false
     by ih true f g = absurd (let h : ⊥ = cc in h)
-    by ih false f g = or_none ((s.0 == w) && test w s.1) (passed_at test ss w) (fails_here test s w f) (ih g)
+    by ih false f g = or_from ((s.0 == w) && test w s.1) (passed_at test ss w) (fails_here test s w f) (ih g)
 
 pub first_some : (test : ℕ → Statement → Bool) (words : List ℕ) (from : ℕ) (sts : List (ℕ × Statement)) (to w : ℕ) → Tiles words from sts to → first_of test sts ≡ Some w → Finds (passed_at test sts) (Some w)
 first_some test words from [] to w t e = absurd (let h : ⊥ = cc in h)
@@ -60,13 +55,13 @@ first_some test words from (s ∷ ss) to w t e = by (λ g. first_some test words
         let k : from < end_of words s = t.1 in
         let l : s.0 ≡ from = t.0 in (
           or_left ((s.0 == w) && test w s.1) (passed_at test ss w) (and_from (s.0 == w) (test w s.1) (eq-eqb s.0 w here) (subst (λ v. test v s.1 ≡ true) here f)),
-          λ v m. or_none ((s.0 == v) && test v s.1) (passed_at test ss v) (and_none (s.0 == v) (test v s.1) (ne_eqb s.0 v (λ h. omega (arith, h, here, m))))
+          λ v m. or_from ((s.0 == v) && test v s.1) (passed_at test ss v) (and_left (s.0 == v) (test v s.1) (ne_eqb s.0 v (λ h. omega (arith, h, here, m))))
               (none_there test ss v (begins_below words (end_of words s) ss to v t.3 (omega (arith, here, m, k, l)))),
         )
     by ih false f g =
         let later = ih g in (
           or_right ((s.0 == w) && test w s.1) (passed_at test ss w) later.0,
-          λ v m. or_none ((s.0 == v) && test v s.1) (passed_at test ss v) (fails_here test s v f) (later.1 v m),
+          λ v m. or_from ((s.0 == v) && test v s.1) (passed_at test ss v) (fails_here test s v f) (later.1 v m),
         )
 
 -- ---- among the statements that are decoded
@@ -91,10 +86,6 @@ module _ (words : List ℕ) (code : Decoded) (d : IsDecoded words code) (test : 
 tiles_split : (words : List ℕ) (from : ℕ) (sts : List (ℕ × Statement)) (s : ℕ × Statement) (more : List (ℕ × Statement)) (to : ℕ) → Tiles words from (sts ++ s ∷ more) to → Tiles words (end_of words s) more to × (s.0 < end_of words s)
 tiles_split words from [] s more to t = (t.3, subst (λ v. v < end_of words s) (sym t.0) t.1)
 tiles_split words from (x ∷ xs) s more to t = tiles_split words (end_of words x) xs s more to t.3
-
-or_right_false : (b : Bool) → (b || false) ≡ b
-or_right_false true = refl
-or_right_false false = refl
 
 module _ (words : List ℕ) (code : Decoded) (d : IsDecoded words code) (test : ℕ → Statement → Bool) (xs : List Placed) (i : ℕ) (same : xs ≡ code.placed.items)
     (before : (v j : ℕ) → passed_at (λ _. test j) (map (placed_of words) (take i code.placed.items)) v ≡ false) where
@@ -134,8 +125,8 @@ module _ (words : List ℕ) (code : Decoded) (d : IsDecoded words code) (test : 
     pub pair_found : (k : ℕ) → test k here.1 ≡ true → ((j : ℕ) → j < k → test j here.1 ≡ false) → FindsPair (λ w j. passed_at (λ _. test j) (statements words) w) (Some (here.0, k))
     pair_found k e less = (
       passed_is here.0 k ∙ or_left ((here.0 == here.0) && test k here.1) (passed_at (λ _. test k) behind here.0) (and_from (here.0 == here.0) (test k here.1) (eq-eqb here.0 here.0 refl) e),
-      (λ v j l. passed_is v j ∙ or_none ((here.0 == v) && test j here.1) (passed_at (λ _. test j) behind v) (and_none (here.0 == v) (test j here.1) (ne_eqb here.0 v (λ h. omega (arith, h, l)))) (none_behind v j (omega (arith, l)))),
-      (λ j l. passed_is here.0 j ∙ or_none ((here.0 == here.0) && test j here.1) (passed_at (λ _. test j) behind here.0) (and_right (here.0 == here.0) (test j here.1) (less j l)) (none_behind here.0 j (omega arith))),
+      (λ v j l. passed_is v j ∙ or_from ((here.0 == v) && test j here.1) (passed_at (λ _. test j) behind v) (and_left (here.0 == v) (test j here.1) (ne_eqb here.0 v (λ h. omega (arith, h, l)))) (none_behind v j (omega (arith, l)))),
+      (λ j l. passed_is here.0 j ∙ or_from ((here.0 == here.0) && test j here.1) (passed_at (λ _. test j) behind here.0) (and_right (here.0 == here.0) (test j here.1) (less j l)) (none_behind here.0 j (omega arith))),
     )
 
     pub none_more : ((j : ℕ) → test j here.1 ≡ false) → (v j : ℕ) → passed_at (λ _. test j) (map (placed_of words) (take (i + 1) code.placed.items)) v ≡ false
@@ -143,8 +134,8 @@ module _ (words : List ℕ) (code : Decoded) (d : IsDecoded words code) (test : 
         ap (λ l. passed_at (λ _. test j) (map (placed_of words) (take (i + 1) l)) v) (sym same)
         ∙ ap (λ l. passed_at (λ _. test j) l v) (map_more (placed_of words) xs i z within)
         ∙ list_any-append (λ s. (s.0 == v) && test j s.1) front (here ∷ [])
-        ∙ or_none (passed_at (λ _. test j) front v) (((here.0 == v) && test j here.1) || false) (none_before v j)
-        (or_right_false ((here.0 == v) && test j here.1) ∙ and_right (here.0 == v) (test j here.1) (h j))
+        ∙ or_from (passed_at (λ _. test j) front v) (((here.0 == v) && test j here.1) || false) (none_before v j)
+        (or-false ((here.0 == v) && test j here.1) ∙ and_right (here.0 == v) (test j here.1) (h j))
 
   pub none_at_all : length xs ≤ i → (v j : ℕ) → passed_at (λ _. test j) (statements words) v ≡ false
   none_at_all l v j =
@@ -171,7 +162,7 @@ last_is w test (s ∷ x ∷ ss) =
 pub last_found : (test : Statement → Bool) (sts : List (ℕ × Statement)) (s : ℕ × Statement) → slice_get sts (length sts - 1) ≡ Some s → test s.1 ≡ true → Finds (λ w. is_last_at w test sts) (Some s.0)
 last_found test sts s e f = (
   last_is s.0 test sts ∙ ap (passes (λ x. (x.0 == s.0) && test x.1)) e ∙ and_from (s.0 == s.0) (test s.1) (eq-eqb s.0 s.0 refl) f,
-  λ v l. last_is v test sts ∙ ap (passes (λ x. (x.0 == v) && test x.1)) e ∙ and_none (s.0 == v) (test s.1) (ne_eqb s.0 v (λ h. omega (arith, h, l))),
+  λ v l. last_is v test sts ∙ ap (passes (λ x. (x.0 == v) && test x.1)) e ∙ and_left (s.0 == v) (test s.1) (ne_eqb s.0 v (λ h. omega (arith, h, l))),
 )
 
 pub last_fails : (test : Statement → Bool) (sts : List (ℕ × Statement)) (s : ℕ × Statement) → slice_get sts (length sts - 1) ≡ Some s → test s.1 ≡ false → (w : ℕ) → is_last_at w test sts ≡ false

@@ -4,7 +4,8 @@ use Rattle.std.proofs.lemmas.Bool.{cases_order, or_left, or_right}
 use Rattle.nxt_model.specs.Reading.{HeldList, row_count, Block, AreApart, non_empty, list_block, table_block, blocks_of}
 use Rattle.nxt_layout.specs.Rows.{Ground, row, row_end, is_full}
 use Rattle.nxt_layout.specs.LayoutRules.{rows_share_a_byte, place_of_row, end_of_row}
-use Rattle.nxt_layout.proofs.Each.{Each, each_then, each_both, each_filter, each_mapped, tally}
+use Rattle.nxt_layout.proofs.Each.{Each, each_then, each_both, each_filter, each_mapped}
+use Rattle.nxt_layout.proofs.Totals.{tally}
 use Rattle.nxt_layout.proofs.RowCounts.{is_row}
 use Rattle.nxt_layout.proofs.OwnRows.{Pairs, all_pairs, no_other, once_behind, IsFullList}
 

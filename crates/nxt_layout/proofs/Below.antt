@@ -1,13 +1,14 @@
 -- Searches and sums over the rows of a table, row by row.
-use Rattle.std.proofs.Common.{◌≡◌, ℕ, zero, suc, ◌+◌, ◌-◌, ◌<◌, ◌≤◌, Bool, true, false, ◌&&◌, not, List, [], ◌∷◌, min, nat_lt, Some, if◌then◌else◌, refl, sym, ap, ◌∙◌, arith}
+use Rattle.std.proofs.Common.{◌≡◌, ℕ, zero, suc, ◌+◌, ◌-◌, ◌<◌, ◌≤◌, Bool, true, false, ◌&&◌, not, List, [], ◌∷◌, min, nat_lt, Option, Some, None, if◌then◌else◌, inl, inr, refl, sym, ap, ◌∙◌, arith, true≢false}
 use Rattle.std.specs.Prelude.{◌==◌, slice_index}
+use Rattle.std.proofs.lemmas.Bool.{cases_lt}
 use Rattle.std.proofs.lemmas.Bool.Decides.{nat_tests}
 use Rattle.nxt_model.specs.Reading.{row_count}
 use Rattle.nxt_layout.specs.Rows.{Ground, has_elements, is_placed}
 use Rattle.nxt_layout.specs.declared.spans.Span.{Span}
-use Rattle.nxt_layout.specs.RowPasses.{first_below, times, is_full_in, is_full_by, IsMarked, sum_below, row_bytes, full_bytes, spans_from, spans_of, row_span, table_span, SpansRise}
-use Rattle.nxt_layout.proofs.Each.{tally_is}
-use Rattle.nxt_layout.proofs.Twice.{any_is}
+use Rattle.nxt_layout.specs.RowPasses.{first_below, times, is_full_in, is_full_by, IsMarked, row_bytes, full_bytes, spans_from, spans_of, row_span, table_span, SpansRise}
+use Rattle.nxt_layout.proofs.Totals.{tally_is, any_is}
+use Rattle.nxt_layout.proofs.SumsBelow.{sums_same}
 
 -- ---- the first below
 
@@ -29,6 +30,66 @@ below_same p q r zero h = refl
 below_same p q r (suc n) h =
     ap (λ b. if b then Some r else first_below p (r + 1) n) (h r (omega arith) (omega arith))
     ∙ ap (λ o. if q r then Some r else o) (below_same p q (r + 1) n (λ k least less. h k (omega (arith, least)) (omega (arith, less))))
+
+-- the least number that passes the test, or none does
+pub record IsFirst (test : ℕ → Bool) (o : Option ℕ) : Type 0 where
+  pub here : (w : ℕ) → o ≡ Some w → test w ≡ true
+  pub least : (w v : ℕ) → o ≡ Some w → test v ≡ true → w ≤ v
+  pub none : (v : ℕ) → o ≡ None → test v ≡ true → ⊥
+
+-- by another test that agrees
+pub first_alike : (f h : ℕ → Bool) (o : Option ℕ) → ((r : ℕ) → f r ≡ h r) → IsFirst f o → IsFirst h o
+first_alike f h o same first =
+    record {
+      here = λ w e. sym (same w) ∙ first.here w e;
+      least = λ w v e t. first.least w v e (same v ∙ t);
+      none = λ v e t. first.none v e (same v ∙ t);
+    }
+
+module _ (test : ℕ → Bool) where
+  -- what is found passes
+  found_passes : (r n w : ℕ) → first_below test r n ≡ Some w → test w ≡ true
+  found_passes r zero w e = cc
+  found_passes r (suc n) w e = at (test r) refl (found_passes (r + 1) n w)
+    where
+      at : (b : Bool) → test r ≡ b → (first_below test (r + 1) n ≡ Some w → test w ≡ true) → test w ≡ true
+      at true f ih =
+          let s : Some r ≡ Some w = sym (ap (λ b. if b then Some r else first_below test (r + 1) n) f) ∙ e in
+          let same : r ≡ w = cc in
+          ap test (sym same) ∙ f
+      at false f ih = ih (sym (ap (λ b. if b then Some r else first_below test (r + 1) n) f) ∙ e)
+
+  -- where a number passes, one up to it is found
+  found_before : (r n v : ℕ) → test v ≡ true → r ≤ v → v < r + n → (w : ℕ) × (first_below test r n ≡ Some w) × (w ≤ v)
+  found_before r zero v h low high = absurd (omega (arith, low, high))
+  found_before r (suc n) v h low high = at (test r) refl (found_before (r + 1) n v h)
+    where
+      at : (b : Bool) → test r ≡ b → (r + 1 ≤ v → v < r + 1 + n → (w : ℕ) × (first_below test (r + 1) n ≡ Some w) × (w ≤ v)) → (w : ℕ) × (first_below test r (suc n) ≡ Some w) × (w ≤ v)
+      at true f ih = (r, ap (λ b. if b then Some r else first_below test (r + 1) n) f, low)
+      at false f ih =
+          elim (cases_lt r v) [
+            | inl less ↦ let x = ih (omega (arith, less)) (omega (arith, high)) in
+                (x.0, ap (λ b. if b then Some r else first_below test (r + 1) n) f ∙ x.1, x.2)
+            | inr more ↦ let same : v ≡ r = omega (arith, low, more) in absurd (true≢false (sym h ∙ ap test same ∙ f))
+          ]
+
+  -- where what is found passes, and one up to each that passes is found
+  pub is_first : (o : Option ℕ) → ((w : ℕ) → o ≡ Some w → test w ≡ true) → ((v : ℕ) → test v ≡ true → (w : ℕ) × (o ≡ Some w) × (w ≤ v)) → IsFirst test o
+  is_first o passes before =
+      record {
+        here = passes;
+        least = λ w v e h.
+            let x = before v h in
+            let s : Some w ≡ Some x.0 = sym e ∙ x.1 in
+            let same : w ≡ x.0 = cc in
+            omega (arith, same, x.2);
+        none = λ v e h. let x = before v h in let s : None ≡ Some x.0 = sym e ∙ x.1 in cc;
+      }
+
+  -- where only numbers below n pass
+  pub first_in : (n : ℕ) → ((v : ℕ) → test v ≡ true → v < n) → IsFirst test (first_below test 0 n)
+  first_in n below =
+      is_first (first_below test 0 n) (found_passes 0 n) (λ v h. found_before 0 n v h (omega arith) (omega (arith, below v h)))
 
 -- ---- marks
 
@@ -56,10 +117,6 @@ first_misplaced g rows marks m =
     below_same (λ r. is_full_by g marks r && not (is_placed g r)) (λ r. is_full_in g rows r && not (is_placed g r)) 0 (row_count g.memory)
     (λ k least less. ap (λ b. b && not (is_placed g k)) (marked_full g rows marks m k (omega (arith, less))))
 
-sums_same : (v w : ℕ → ℕ) (n : ℕ) → ((r : ℕ) → r < n → v r ≡ w r) → sum_below v n ≡ sum_below w n
-sums_same v w zero h = refl
-sums_same v w (suc n) h = omega (arith, sums_same v w n (λ r less. h r (omega (arith, less))), h n (omega arith))
-
 pub marked_bytes : (g : Ground) (rows marks : List ℕ) → IsMarked g rows marks → full_bytes g (is_full_by g marks) ≡ full_bytes g (is_full_in g rows)
 marked_bytes g rows marks m =
     sums_same (λ r. if is_full_by g marks r then row_bytes g r else 0) (λ r. if is_full_in g rows r then row_bytes g r else 0) (row_count g.memory)
@@ -70,7 +127,7 @@ marked_bytes g rows marks m =
 pub spans_next : (g : Ground) (full : ℕ → Bool) (r n : ℕ) → r < n → spans_from g full r (n - r) ≡ (if full r then row_span g r ∷ spans_from g full (r + 1) (n - (r + 1)) else spans_from g full (r + 1) (n - (r + 1)))
 spans_next g full r n h = ap (spans_from g full r) (one_less r n h)
 
-spans_same : (g : Ground) (p q : ℕ → Bool) (r n : ℕ) → ((k : ℕ) → r ≤ k → k < r + n → p k ≡ q k) → spans_from g p r n ≡ spans_from g q r n
+pub spans_same : (g : Ground) (p q : ℕ → Bool) (r n : ℕ) → ((k : ℕ) → r ≤ k → k < r + n → p k ≡ q k) → spans_from g p r n ≡ spans_from g q r n
 spans_same g p q r zero h = refl
 spans_same g p q r (suc n) h =
     let rest = spans_same g p q (r + 1) n (λ k least less. h k (omega (arith, least)) (omega (arith, less))) in

@@ -3,6 +3,7 @@ use Rattle.std.proofs.Common.{◌≡◌, ℕ, ◌+◌, ◌<◌, ◌≤◌, List,
 use Rattle.std.proofs.lemmas.Bool.Decides.{nat_tests}
 use Rattle.std.proofs.lemmas.List.Sums.{sum_by-cons}
 use Rattle.std.specs.Prelude.{map, find, filter, fold, sum_by, slice_range, nat_lt, option_map, if◌then◌else◌}
+use Rattle.std.proofs.lemmas.Bool.{and_right}
 use Rattle.nxt_rxe.specs.declared.parts.Parts.{Parts}
 use Rattle.nxt_types.specs.Shapes.{Shape, Void, Number, Array, Cluster, Mutex}
 use Rattle.nxt_layout.specs.Leaves.{Leaf, width, is_mutex}
@@ -19,13 +20,9 @@ none_before : (ls : List Leaf) (i x : ℕ) → Rising i ls → x ≤ i → bytes
 none_before [] i x r h = refl
 none_before (l ∷ ls) i x r h =
     let t : nat_lt l.entry x ≡ false = grind (arith, nat_tests, r.0) in
-    let u : (l.has_default && nat_lt l.entry x) ≡ false = ap (λ b. l.has_default && b) t ∙ never l.has_default in
+    let u : (l.has_default && nat_lt l.entry x) ≡ false = and_right l.has_default (nat_lt l.entry x) t in
     ap (λ b. sum_by width (cond b (l ∷ filter (λ m. m.has_default && nat_lt m.entry x) ls) (filter (λ m. m.has_default && nat_lt m.entry x) ls))) u
     ∙ none_before ls (l.entry + 1) x r.1 (omega (arith, r.0))
-  where
-    never : (b : Bool) → (b && false) ≡ false
-    never true = refl
-    never false = refl
 
 with_first : (l : Leaf) (ls : List Leaf) (x : ℕ) → l.entry < x → l.has_default ≡ true → bytes_before (l ∷ ls) x ≡ width l + bytes_before ls x
 with_first l ls x h d =

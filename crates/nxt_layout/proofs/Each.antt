@@ -1,9 +1,8 @@
--- Facts on each element of a list, and counts of elements.
-use Rattle.std.proofs.Common.{◌≡◌, ℕ, ◌+◌, Bool, true, false, cond, List, [], ◌∷◌, ◌++◌, map, filter, flat_map, count_by, refl, ap, ◌∙◌, arith}
-use Rattle.std.specs.List.{AllByRecursion}
-use Rattle.std.proofs.lemmas.List.Sums.{sum_by-cons}
-
--- ---- each element
+-- Facts on each element of a list.
+use Rattle.std.proofs.Common.{◌≡◌, Bool, true, false, cond, List, [], ◌∷◌, ◌++◌, map, filter, flat_map, refl, ap}
+use Rattle.std.specs.List.{AllByRecursion, list_all}
+use Rattle.std.proofs.lemmas.List.Elements.{All-from_recursion, recursion_from_All}
+use Rattle.std.proofs.lemmas.List.Sums.{AllPass-from_list_all, list_all-from_AllPass}
 
 abbrev pub Each : {X : Type 0} → (X → Type 0) → List X → Type 0
 Each P xs = AllByRecursion P xs
@@ -64,35 +63,9 @@ pub filter_all : {X : Type 0} (p : X → Bool) (xs : List X) → Each (λ x. p x
 filter_all p [] e = refl
 filter_all p (x ∷ xs) e = rw e.0 (ap (λ ys. x ∷ ys) (filter_all p xs e.1))
 
--- ---- counts
+-- where all pass a test
+pub each_passes : {X : Type 0} (test : X → Bool) (xs : List X) → list_all test xs ≡ true → Each (λ x. test x ≡ true) xs
+each_passes test xs e = recursion_from_All (λ x. test x ≡ true) xs (AllPass-from_list_all test xs e)
 
-abbrev pub bit : Bool → ℕ
-bit b = cond b 1 0
-
-abbrev pub tally : {X : Type 0} → (X → Bool) → List X → ℕ
-tally p [] = 0
-tally p (x ∷ xs) = bit (p x) + tally p xs
-
-pub tally_is : {X : Type 0} (p : X → Bool) (xs : List X) → count_by p xs ≡ tally p xs
-tally_is p [] = refl
-tally_is p (x ∷ xs) = sum_by-cons (λ y. cond (p y) 1 0) x xs ∙ ap (λ n. bit (p x) + n) (tally_is p xs)
-
-pub tally-append : {X : Type 0} (p : X → Bool) (xs ys : List X) → tally p (xs ++ ys) ≡ tally p xs + tally p ys
-tally-append p [] ys = omega arith
-tally-append p (x ∷ xs) ys = omega (arith, tally-append p xs ys)
-
-pub tally_two : {X Y : Type 0} (p : Y → Bool) (f h : X → List Y) (xs : List X) → tally p (flat_map (λ x. f x ++ h x) xs) ≡ tally p (flat_map f xs) + tally p (flat_map h xs)
-tally_two p f h [] = refl
-tally_two p f h (x ∷ xs) =
-    omega (
-      arith,
-      tally-append p (f x ++ h x) (flat_map (λ x. f x ++ h x) xs),
-      tally-append p (f x) (h x),
-      tally-append p (f x) (flat_map f xs),
-      tally-append p (h x) (flat_map h xs),
-      tally_two p f h xs,
-    )
-
-pub tally_none : {X Y : Type 0} (p : Y → Bool) (xs : List X) → tally p (flat_map (λ x. []) xs) ≡ 0
-tally_none p [] = refl
-tally_none p (x ∷ xs) = tally_none p xs
+pub passes_each : {X : Type 0} (test : X → Bool) (xs : List X) → Each (λ x. test x ≡ true) xs → list_all test xs ≡ true
+passes_each test xs e = list_all-from_AllPass test xs (All-from_recursion (λ x. test x ≡ true) xs e)

@@ -2,13 +2,14 @@
 use Rattle.std.proofs.Common.{◌≡◌, ℕ, zero, suc, ◌+◌, ◌*◌, ◌≤◌, ◌<◌, Bool, true, false, ◌&&◌, ◌||◌, not, List, [], ◌∷◌, flat_map, length, refl, sym, ap, subst, arith, leb-true, lt-ltb, zero-lt-suc}
 use Rattle.std.proofs.lemmas.Bool.{and_from, and_parts}
 use Rattle.nxt_types.specs.Shapes.{Shape, Void, Number, Array, Cluster, Mutex, Members, no_members, member}
-use Rattle.nxt_types.specs.Names.{size, sizes}
+use Rattle.nxt_types.specs.Names.{size}
 use Rattle.nxt_model.specs.Values.{list_of, group_of, items, values}
 use Rattle.nxt_model.specs.Reading.{Reads, MembersRead, RowReads, row_count, leaf_place}
 use Rattle.nxt_model.proofs.ValueLemmas.{items-values}
 use Rattle.nxt_layout.specs.Leaves.{Leaf, extent}
 use Rattle.nxt_layout.specs.Rows.{Ground, row, row_end, has_elements, names_row, is_placed, is_strided, places_from, elements_of, element_places, numbers_at, reached_through}
 use Rattle.nxt_layout.specs.Start.{with_strides, all_with_strides}
+use Rattle.nxt_layout.proofs.StrideFree.{size-with_strides}
 use Rattle.nxt_layout.proofs.Each.{Each, each_from, each_then, each_both, each_apart, each_part, each_flat, each_map, each_kept, filter_all}
 use Rattle.nxt_layout.proofs.Found.{number_at, row_values, row_lists, value_at, values_among, lists_at, lists_among, places_within, row_reads}
 use Rattle.nxt_layout.proofs.Fair.{leaf_in, leaves_in, leaves_among, room, HasFairRows, IsFair, AreFair, HasRoom}
@@ -43,7 +44,7 @@ places_fit room at stride (suc n) bytes h =
     (places_from at stride (suc n))
     (places_within at stride (suc n))
 
-when_full : (h a b : Bool) → h ≡ true → (not h || (a && b)) ≡ true → (a ≡ true) × (b ≡ true)
+pub when_full : (h a b : Bool) → h ≡ true → (not h || (a && b)) ≡ true → (a ≡ true) × (b ≡ true)
 when_full true a b e t = and_parts a b t
 when_full false a b e t = let f : ⊥ = cc in absurd f
 
@@ -93,19 +94,6 @@ by_number g l P h e =
     (each_part P (elements_of g) (reached_through g l) (subst (Each P) (all_read g l h) e)))
 
 -- ---- shapes
-
-mutual
-  pub size-with_strides : (f : ℕ → ℕ) (i : ℕ) (s : Shape) → size (with_strides f i s) ≡ size s
-  size-with_strides f i Void = refl
-  size-with_strides f i (Number k) = refl
-  size-with_strides f i (Array n s) = ap (λ n. n + 1) (size-with_strides f (i + 1) s)
-  size-with_strides f i (Cluster ss) = ap (λ n. n + 1) (sizes-with_strides f (i + 1) ss)
-  size-with_strides f i Mutex = refl
-
-  pub sizes-with_strides : (f : ℕ → ℕ) (i : ℕ) (ss : Members) → sizes (all_with_strides f i ss) ≡ sizes ss
-  sizes-with_strides f i no_members = refl
-  sizes-with_strides f i (member s ss) =
-      rw (size-with_strides f i s, sizes-with_strides f (i + size s) ss)
 
 -- the array's value reads where its row does
 array_reads : (g : Ground) (f : ℕ → ℕ) (n : ℕ) (s : Shape) (i base : ℕ) → RowReads g.memory (Reads g.memory (i + 1) (with_strides f (i + 1) s)) (f i) (number_at g i base) (row_values g (value_at g s (i + 1)) (number_at g i base)) (row_lists g (f i) (lists_at g f s (i + 1)) (number_at g i base)) → leaf_place g.memory i base + 2 ≤ length g.memory.bytes → Reads g.memory i (with_strides f i (Array n s)) base (value_at g (Array n s) i base) (lists_at g f (Array n s) i base)

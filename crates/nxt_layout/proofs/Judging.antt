@@ -25,7 +25,7 @@ use Rattle.nxt_layout.proofs.StartLaw.{one_table}
 use Rattle.nxt_layout.proofs.Whole.{whole_table, is_open_there, open_is_found}
 use Rattle.nxt_layout.proofs.Marks.{mark_of, shape_head, site_head, table_marks, table_heads}
 use Rattle.nxt_layout.proofs.First.{first_passes, first_is_least, none_passes, first_from-map}
-use Rattle.nxt_layout.proofs.LeafLemmas.{flat, flat_first, flat_misplaced, table_leaves, table_rises, first_entry, first_leaf_passes, first_leaf_least, no_leaf_passes}
+use Rattle.nxt_layout.proofs.LeafLemmas.{head_of, tail_of, flat, flat_first, flat_misplaced, table_leaves, table_rises, first_entry, first_leaf_passes, first_leaf_least, no_leaf_passes}
 use Rattle.nxt_layout.proofs.Pairs.{first_pair_passes, first_pair_least, no_pair_passes}
 use Rattle.nxt_layout.proofs.Defaults.{lacking_same, behind_all}
 use Rattle.nxt_layout.proofs.Settled.{nothing, NoLeafFault, no_leaf_fault}
@@ -51,22 +51,13 @@ mutex_code (Array n s) = refl
 mutex_code (Cluster ss) = refl
 mutex_code Mutex = refl
 
-code_at : List (ℕ × ℕ) → ℕ
-code_at [] = 0
-code_at (x ∷ xs) = x.0
-
-tail_of : List (ℕ × ℕ) → List (ℕ × ℕ)
-tail_of [] = []
-tail_of (x ∷ xs) = xs
-
 mutexes_same : (es : List TocEntry) (sts : List Site) (i : ℕ) → map outline es ≡ map site_head sts →
     first_from is_inner_mutex i (placed_by es (map mark_of sts)) ≡ first_from is_mutex_inside i sts
-unfolding code_at tail_of
 mutexes_same [] [] i h = refl
 mutexes_same [] (s ∷ sts) i h = cc
 mutexes_same (e ∷ es) [] i h = cc
 mutexes_same (e ∷ es) (s ∷ sts) i h =
-    let code = ap code_at h in
+    let code = ap (λ os. (head_of os).0) h in
     let same : (e.code == 9) ≡ is_mutex s.shape = ap (λ c. c == 9) code ∙ mutex_code s.shape in
     ap (λ b. if b && nat_lt 0 s.depth then Some i else first_from is_inner_mutex (i + 1) (placed_by es (map mark_of sts))) same
     ∙ ap (λ o. if is_mutex_inside s then Some i else o) (mutexes_same es sts (i + 1) (ap tail_of h))

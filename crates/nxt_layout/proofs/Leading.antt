@@ -6,8 +6,8 @@ use Rattle.std.proofs.lemmas.Map.Views.{any-filter_same}
 use Rattle.nxt_layout.specs.Owners.{least_of}
 use Rattle.nxt_layout.specs.Rows.{Ground, row, has_elements, is_placed, is_strided_by, read_by}
 use Rattle.nxt_layout.specs.RowPasses.{Through, least, misstrided_in, stride_or, lead_of, is_odd, odd_of, is_from, is_even}
-use Rattle.nxt_layout.proofs.Each.{Each, each_then}
-use Rattle.nxt_layout.proofs.RowCounts.{is_it}
+use Rattle.nxt_layout.proofs.Each.{Each, each_then, each_passes, passes_each}
+use Rattle.nxt_layout.proofs.Totals.{is_it}
 
 -- ---- the lesser of two
 
@@ -122,14 +122,6 @@ pub least_keeps : (p : ℕ → Bool) (xs : List ℕ) (m : ℕ) → least (filter
 least_keeps p xs m e =
     and_parts (p m) (list_any (is_it m) xs) (sym (among_filter p xs m) ∙ least_among (filter p xs) m e)
 
-all_from_each : (p : ℕ → Bool) (xs : List ℕ) → Each (λ x. p x ≡ true) xs → list_all p xs ≡ true
-all_from_each p [] e = refl
-all_from_each p (x ∷ xs) e = and_from (p x) (list_all p xs) e.0 (all_from_each p xs e.1)
-
-each_from_all : (p : ℕ → Bool) (xs : List ℕ) → list_all p xs ≡ true → Each (λ x. p x ≡ true) xs
-each_from_all p [] e = tt
-each_from_all p (x ∷ xs) e = let two = and_parts (p x) (list_all p xs) e in (two.0, each_from_all p xs two.1)
-
 -- ---- strides
 
 -- the stride of the first row that has elements
@@ -152,7 +144,7 @@ before_odd g rows r q before among has less = at ((row g q).stride == lead_strid
         let late : is_from (Some first.0) r ≡ false = sym (ap (λ o. is_from o r) first.1) ∙ before in
         absurd (omega (arith, leb-false first.0 r late, first.2, less))
 
-like_one : (less has same : Bool) → less ≡ true → has ≡ true → (not (less && has) || same) ≡ true → same ≡ true
+pub like_one : (less has same : Bool) → less ≡ true → has ≡ true → (not (less && has) || same) ≡ true → same ≡ true
 like_one true true same a b h = h
 like_one true false same a b h = absurd (true≢false (sym b))
 like_one false has same a b h = absurd (true≢false (sym a))
@@ -171,7 +163,7 @@ same_before g rows r q all among has less =
     ((row g q).stride == (row g r).stride)
     (lt-ltb q r before)
     has
-    (each_among (λ x. is_like g r x ≡ true) rows q (each_from_all (is_like g r) rows all) among)))
+    (each_among (λ x. is_like g r x ≡ true) rows q (each_passes (is_like g r) rows all) among)))
     (λ (from : r ≤ q). let same : q ≡ r = omega (arith, less, from) in ap (λ n. (row g n).stride) same)
     (cases_lt q r)
 
@@ -202,7 +194,7 @@ even_is_strided g bytes rows r among = at (has_elements g r) refl
     alike has true f =
         ap not f
         ∙ sym (false_from_ne_true (list_all (is_like g r) rows) (λ all. odd_differs g rows r f among has all))
-    alike has false f = ap not f ∙ sym (all_from_each (is_like g r) rows (each_from_among (λ q. is_like g r q ≡ true) rows like))
+    alike has false f = ap not f ∙ sym (passes_each (is_like g r) rows (each_from_among (λ q. is_like g r q ≡ true) rows like))
       where
         like : (q : ℕ) → list_any (λ x. x == q) rows ≡ true → is_like g r q ≡ true
         like q h = by (nat_lt q r) refl (has_elements g q) refl

@@ -69,17 +69,16 @@ one_leaf i e s h = ap (leaf_list i p) (ap item h ∙ item_head s.shape) ∙ at s
     at (Cluster ss) f = refl
     at Mutex f = ap (λ x. x ∷ []) (same items.Mutex)
 
-head_of : List (ℕ × ℕ) → ℕ × ℕ
+abbrev pub head_of : List (ℕ × ℕ) → ℕ × ℕ
 head_of [] = (0, 0)
 head_of (x ∷ xs) = x
 
-tail_of : List (ℕ × ℕ) → List (ℕ × ℕ)
+abbrev pub tail_of : List (ℕ × ℕ) → List (ℕ × ℕ)
 tail_of [] = []
 tail_of (x ∷ xs) = xs
 
 leaves_same : (es : List TocEntry) (sts : List Site) (i : ℕ) → map outline es ≡ map site_head sts →
     leaves_from i (placed_by es (map mark_of sts)) ≡ map flat (flat_map leaf_here (enumerate_from i (zip es sts)))
-unfolding head_of tail_of
 leaves_same [] sts i h = refl
 leaves_same (e ∷ es) [] i h = refl
 leaves_same (e ∷ es) (s ∷ sts) i h =
@@ -134,7 +133,7 @@ abbrev pub Rising : ℕ → List Leaf → Type 0
 Rising i [] = Unit {0}
 Rising i (l ∷ ls) = (i ≤ l.entry) × Rising (l.entry + 1) ls
 
-rising_from : (i j : ℕ) (ls : List Leaf) → j ≤ i → Rising i ls → Rising j ls
+pub rising_from : (i j : ℕ) (ls : List Leaf) → j ≤ i → Rising i ls → Rising j ls
 rising_from i j [] h r = tt
 rising_from i j (l ∷ ls) h r = (omega (arith, r.0), r.1)
 

@@ -1,19 +1,16 @@
 -- The leaves of a table are those of its shapes by recursion, and each is found by its entry.
-use Rattle.std.proofs.Common.{◌≡◌, ℕ, zero, suc, ◌+◌, ◌≤◌, ◌<◌, Bool, true, false, cond, ◌&&◌, List, [], ◌∷◌, ◌++◌, filter, flat_map, zip, drop, length, max, fold, slice_get, Option, Some, if◌then◌else◌, refl, sym, ap, ◌∙◌, subst, arith, append_assoc, append-nil, eq-eqb, ne_eqb}
+use Rattle.std.proofs.Common.{◌≡◌, ℕ, zero, suc, ◌+◌, ◌≤◌, ◌<◌, Bool, true, false, cond, ◌&&◌, List, [], ◌∷◌, ◌++◌, filter, flat_map, zip, drop, length, max, fold, slice_get, Option, Some, if◌then◌else◌, refl, sym, ap, ◌∙◌, arith, append_assoc, append-nil, eq-eqb, ne_eqb}
 use Rattle.std.specs.List.{enumerate_from}
 use Rattle.nxt_types.specs.Shapes.{Shape, Void, Number, Array, Cluster, Mutex, Members, no_members, member}
 use Rattle.nxt_types.specs.Names.{size, sizes, is_leaf}
 use Rattle.nxt_types.specs.declared.shape.TocEntry.{TocEntry}
 use Rattle.nxt_model.specs.Reading.{desc_of}
-use Rattle.nxt_layout.specs.Leaves.{Site, site, Leaf, is_outside, leaf_at, leaves, leaf_of, sites, sites_in, sites_among, end_of, extent, stands_in}
+use Rattle.nxt_layout.specs.Leaves.{Site, site, Leaf, is_outside, leaves, leaf_of, sites, sites_in, sites_among, end_of, extent, stands_in}
+use Rattle.nxt_layout.proofs.LeafLemmas.{leaf_here, Rising, rising_from, table_rises}
 use Rattle.nxt_layout.proofs.Each.{Each, each_then, each_both}
 use Rattle.nxt_layout.proofs.Fair.{takes_default, leaf_in, leaves_in, leaves_among}
 
 -- ---- by recursion
-
--- the leaf of a numbered entry with its site
-abbrev leaf_here : ℕ × (TocEntry × Site) → List Leaf
-leaf_here x = if is_leaf x.1.1.shape then leaf_at x.0 x.1.0 x.1.1 ∷ [] else []
 
 -- those from entry i on
 abbrev leaves_from : List TocEntry → ℕ → List Site → List Leaf
@@ -91,30 +88,13 @@ leaves_are table ss h =
 
 -- ---- found by entry
 
--- entries rise, from i on
-abbrev Rising : ℕ → List Leaf → Type 0
-Rising i [] = Unit {0}
-Rising i (l ∷ ls) = (i ≤ l.entry) × Rising (l.entry + 1) ls
-
-rising_from : (i k : ℕ) (ls : List Leaf) → i ≤ k → Rising k ls → Rising i ls
-rising_from i k [] h r = tt
-rising_from i k (l ∷ ls) h r = (omega (arith, h, r.0), r.1)
-
 rising_kept : (l : Leaf) (i : ℕ) (ls : List Leaf) (b : Bool) → i ≤ l.entry → Rising (l.entry + 1) ls → Rising i (cond b (l ∷ ls) ls)
 rising_kept l i ls true h r = (h, r)
-rising_kept l i ls false h r = rising_from i (l.entry + 1) ls (omega (arith, h)) r
+rising_kept l i ls false h r = rising_from (l.entry + 1) i ls (omega (arith, h)) r
 
 pub rising_filter : (p : Leaf → Bool) (i : ℕ) (ls : List Leaf) → Rising i ls → Rising i (filter p ls)
 rising_filter p i [] r = tt
 rising_filter p i (l ∷ ls) r = rising_kept l i (filter p ls) (p l) r.0 (rising_filter p (l.entry + 1) ls r.1)
-
-rising_leaf : (i : ℕ) (l : Leaf) (ls : List Leaf) (b : Bool) → l.entry ≡ i → Rising (i + 1) ls → Rising i ((if b then l ∷ [] else []) ++ ls)
-rising_leaf i l ls true e r = (omega (arith, e), subst (λ n. Rising (n + 1) ls) (sym e) r)
-rising_leaf i l ls false e r = rising_from i (i + 1) ls (omega arith) r
-
-rising_leaves : (i : ℕ) (xs : List (TocEntry × Site)) → Rising i (flat_map leaf_here (enumerate_from i xs))
-rising_leaves i [] = tt
-rising_leaves i (x ∷ xs) = rising_leaf i (leaf_at i x.0 x.1) (flat_map leaf_here (enumerate_from (i + 1) xs)) (is_leaf x.1.shape) refl (rising_leaves (i + 1) xs)
 
 all_later : (i : ℕ) (ls : List Leaf) → Rising i ls → Each (λ l. i ≤ l.entry) ls
 all_later i [] r = tt
@@ -137,11 +117,11 @@ found_from i (l ∷ ls) r = (
 
 -- each leaf of a table is found by its entry, also among those that pass a test
 pub leaves_found : (table : List TocEntry) (ss : Members) → Each (λ l. leaf_of (leaves table ss) l.entry ≡ Some l) (leaves table ss)
-leaves_found table ss = found_from 0 (leaves table ss) (rising_leaves 0 (zip table (sites ss)))
+leaves_found table ss = found_from 0 (leaves table ss) (table_rises table ss)
 
 pub some_found : (p : Leaf → Bool) (table : List TocEntry) (ss : Members) → Each (λ l. leaf_of (filter p (leaves table ss)) l.entry ≡ Some l) (filter p (leaves table ss))
 some_found p table ss =
-    found_from 0 (filter p (leaves table ss)) (rising_filter p 0 (leaves table ss) (rising_leaves 0 (zip table (sites ss))))
+    found_from 0 (filter p (leaves table ss)) (rising_filter p 0 (leaves table ss) (table_rises table ss))
 
 -- ---- extents
 

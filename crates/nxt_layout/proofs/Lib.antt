@@ -14,6 +14,8 @@ pub mod Settled
 pub mod Starting
 pub mod Owning
 pub mod Each
+pub mod Totals
+pub mod SumsBelow
 pub mod Found
 pub mod Fair
 pub mod FairReads

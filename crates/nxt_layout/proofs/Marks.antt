@@ -1,5 +1,6 @@
 -- The marks of a table are those of its sites.
 use Rattle.std.proofs.Common.{◌≡◌, ℕ, suc, ◌+◌, ◌-◌, ◌<◌, ◌≤◌, List, [], ◌∷◌, ◌++◌, refl, sym, ap, ◌∙◌, length, arith, append_assoc, append-nil, true, false, Option, Some, None}
+use Rattle.std.proofs.lemmas.Bool.{and_parts}
 use Rattle.std.proofs.lemmas.List.{map-append}
 use Rattle.std.proofs.lemmas.Bool.Decides.{nat_tests}
 use Rattle.std.specs.Prelude.{map, max, nat_lt, IsTrue}
@@ -12,7 +13,7 @@ use Rattle.nxt_layout.specs.declared.enclosing.Frame.{Frame}
 use Rattle.nxt_layout.specs.Items.{item, needs_behind}
 use Rattle.nxt_layout.specs.Leaves.{Site, sites, sites_in, sites_among, AreShapes}
 use Rattle.nxt_layout.specs.Enclosing.{Mark, around, still_open, opened, mark, marks_from, marks}
-use Rattle.nxt_layout.proofs.Opening.{number_item, both}
+use Rattle.nxt_layout.proofs.Opening.{number_item}
 
 abbrev pub next_of : List ℕ → Option ℕ
 next_of [] = None
@@ -81,7 +82,7 @@ mutual
       (ap (λ l. marks_from k l (i + 1 + size s) os) (ends k (Some i) fs) ∙ at_place k (i + 1 + size s) (i + (size s + 1)) (still_open k fs) os (omega arith))
       ∙ ap (λ m. m ∷ (map mark_of (sites_in s (i + 1) (length fs + 1) (i ∷ arrays)) ++ marks_from k (still_open k fs) (i + (size s + 1)) os)) (site_mark fs arrays a)
   marks_of (Cluster ss) n k i fs arrays os h f over a =
-      let g = both (nat_lt 0 (count ss)) (are_filled ss) f in
+      let g = and_parts (nat_lt 0 (count ss)) (are_filled ss) f in
       let less : n - 1 ≡ k = omega (arith, h) in
       let frame : Frame = record { floor = k; array = around fs } in
       let pos : 0 < count ss = grind (arith, nat_tests, g.0) in
@@ -102,7 +103,7 @@ mutual
       marks_from (k + count ss) fs i (spellings ss ++ os) ≡ map mark_of (sites_among ss i (length fs) arrays) ++ marks_from k (still_open k fs) (i + sizes ss) os
   marks_among no_members k i fs arrays os pos f over a = absurd (omega (arith, pos))
   marks_among (member s no_members) k i fs arrays os pos f over a =
-      let g = both (is_filled s) true f in
+      let g = and_parts (is_filled s) true f in
       let one : max (k + 1) 1 ≡ suc k = omega arith in
       let here : i + size s ≡ i + (size s + 0) = omega arith in
       ap (λ l. marks_from (k + 1) fs i (l ++ os)) (append-nil (spelling s))
@@ -110,7 +111,7 @@ mutual
       ∙ ap (λ l. map mark_of l ++ marks_from k (still_open k fs) (i + size s) os) (sym (append-nil (sites_in s i (length fs) arrays)))
       ∙ ap (λ j. map mark_of (sites_in s i (length fs) arrays ++ []) ++ marks_from k (still_open k fs) j os) here
   marks_among (member s (member t ts)) k i fs arrays os pos f over a =
-      let g = both (is_filled s) (are_filled (member t ts)) f in
+      let g = and_parts (is_filled s) (are_filled (member t ts)) f in
       let one : max (k + count (member s (member t ts))) 1 ≡ suc (k + count (member t ts)) = omega arith in
       let here : i + size s + sizes (member t ts) ≡ i + sizes (member s (member t ts)) = omega arith in
       let first : List Mark = map mark_of (sites_in s i (length fs) arrays) in
@@ -126,7 +127,7 @@ mutual
 marks_of_variables : (ss : Members) (i : ℕ) → IsTrue (are_filled ss) → marks_from 0 [] i (spellings ss) ≡ map mark_of (sites_among ss i 0 [])
 marks_of_variables no_members i f = refl
 marks_of_variables (member s ss) i f =
-    let g = both (is_filled s) (are_filled ss) f in
+    let g = and_parts (is_filled s) (are_filled ss) f in
     marks_of s 0 0 i [] [] (spellings ss) refl g.0 tt refl
     ∙ ap (λ l. map mark_of (sites_in s i 0 []) ++ l) (marks_of_variables ss (i + size s) g.1)
     ∙ sym (map-append mark_of (sites_in s i 0 []) (sites_among ss (i + size s) 0 []))

@@ -1,40 +1,28 @@
 -- The rows that numbers name, number by number.
-use Rattle.std.proofs.Common.{◌≡◌, ℕ, ◌+◌, ◌-◌, ◌<◌, Bool, true, false, ◌||◌, suc, List, [], ◌∷◌, ◌++◌, fold, flat_map, map, length, drop, drop-cons, length-append, Option, Some, None, if◌then◌else◌, refl, sym, ap, ◌∙◌, arith}
-use Rattle.std.specs.BTreeMap.{get}
-use Rattle.std.specs.Prelude.{slice_index}
+use Rattle.std.proofs.Common.{◌≡◌, ℕ, ◌+◌, ◌-◌, ◌<◌, true, false, ◌||◌, suc, List, [], ◌∷◌, ◌++◌, fold, flat_map, map, length, drop, length-append, set, get_or-set_same, get_or-set_other, eq-eqb, ne_eqb, inl, inr, Option, Some, None, if◌then◌else◌, refl, sym, ap, ◌∙◌, arith}
+use Rattle.std.proofs.Math.Bool.{or-false, or_assoc}
+use Rattle.std.proofs.lemmas.List.Folds.{list_any-append}
+use Rattle.std.proofs.lemmas.List.Sums.{fold-append}
+use Rattle.std.specs.Prelude.{slice_index, ◌==◌}
 use Rattle.std.specs.List.{list_any}
-use Rattle.std.specs.Ordering.{nat_cmp}
+use Rattle.std.proofs.lemmas.List.{drop_more}
+use Rattle.std.proofs.lemmas.Bool.{cases_eq}
 use Rattle.nxt_model.specs.Reading.{u16_in}
 use Rattle.nxt_layout.specs.declared.names.Names.{Names}
 use Rattle.nxt_layout.specs.declared.reach.OpenArray.{OpenArray}
 use Rattle.nxt_layout.specs.Rows.{Ground, row, elements_of, places_from}
 use Rattle.nxt_layout.proofs.Found.{length-places}
-use Rattle.nxt_layout.specs.RowPasses.{opened, is_back, back_to, with_number, numbers_in, is_beyond, IsCounted, Takes}
+use Rattle.nxt_layout.proofs.Totals.{bit, tally_is, tally-append}
+use Rattle.nxt_layout.specs.RowPasses.{opened, is_back, back_to, times, with_number, numbers_in, is_beyond, IsCounted, Takes}
 
 -- of all these numbers the rest is left to take
 pub record IsLeft (g : Ground) (all rest : List ℕ) (initial now : Names) : Type 0 where
   pub rows : fold (with_number g) now.rows.items rest ≡ fold (with_number g) initial.rows.items all
   pub beyond : (now.beyond || list_any (is_beyond g) rest) ≡ (initial.beyond || list_any (is_beyond g) all)
-  pub counted : IsCounted (get nat_cmp now.times) now.rows.items
+  pub counted : IsCounted now
   pub table : now.table_rows ≡ initial.table_rows
 
-or_false : (b : Bool) → (b || false) ≡ b
-or_false true = refl
-or_false false = refl
-
-or_assoc : (a b c : Bool) → ((a || b) || c) ≡ (a || (b || c))
-or_assoc true b c = refl
-or_assoc false b c = refl
-
-any-append : (p : ℕ → Bool) (xs ys : List ℕ) → list_any p (xs ++ ys) ≡ (list_any p xs || list_any p ys)
-any-append p [] ys = refl
-any-append p (x ∷ xs) ys = ap (λ b. p x || b) (any-append p xs ys) ∙ sym (or_assoc (p x) (list_any p xs) (list_any p ys))
-
-fold-append : (f : List ℕ → ℕ → List ℕ) (z : List ℕ) (xs ys : List ℕ) → fold f z (xs ++ ys) ≡ fold f (fold f z xs) ys
-fold-append f z [] ys = refl
-fold-append f z (x ∷ xs) ys = fold-append f (f z x) xs ys
-
-pub left_all : (g : Ground) (all : List ℕ) (n : Names) → IsCounted (get nat_cmp n.times) n.rows.items → IsLeft g all all n n
+pub left_all : (g : Ground) (all : List ℕ) (n : Names) → IsCounted n → IsLeft g all all n n
 left_all g all n h = record { rows = refl; beyond = refl; counted = h; table = refl }
 
 -- with more numbers taken
@@ -45,7 +33,7 @@ left_less g all here rest initial now next h t =
       beyond =
           ap (λ b. b || list_any (is_beyond g) rest) t.beyond
           ∙ or_assoc now.beyond (list_any (is_beyond g) here) (list_any (is_beyond g) rest)
-          ∙ ap (λ b. now.beyond || b) (sym (any-append (is_beyond g) here rest))
+          ∙ ap (λ b. now.beyond || b) (sym (list_any-append (is_beyond g) here rest))
           ∙ h.beyond;
       counted = t.counted;
       table = t.table ∙ h.table;
@@ -53,7 +41,7 @@ left_less g all here rest initial now next h t =
 
 pub left_none : (g : Ground) (all : List ℕ) (initial now : Names) → IsLeft g all [] initial now → Takes g all initial now
 left_none g all initial now h =
-    record { rows = h.rows; beyond = sym (or_false now.beyond) ∙ h.beyond; counted = h.counted; table = h.table }
+    record { rows = h.rows; beyond = sym (or-false now.beyond) ∙ h.beyond; counted = h.counted; table = h.table }
 
 -- ---- the numbers of a row
 
@@ -76,8 +64,36 @@ close_one (Some a) (o ∷ os) e = sym (ap (λ b. if b then opened o ∷ map open
 pub elements_more : (g : Ground) (rows : List ℕ) (k : ℕ) → k < length rows → length (flat_map (elements_of g) (drop k rows)) ≡ (row g (slice_index rows k)).count + length (flat_map (elements_of g) (drop (k + 1) rows))
 elements_more g rows k h =
     let r = slice_index rows k in
-    let next : suc k ≡ k + 1 = omega arith in
-    let first : drop k rows ≡ r ∷ drop (k + 1) rows = drop-cons rows k 0 h ∙ ap (λ n. r ∷ drop n rows) next in
-    ap (λ rs. length (flat_map (elements_of g) rs)) first
+    ap (λ rs. length (flat_map (elements_of g) rs)) (drop_more rows k 0 h)
     ∙ length-append (elements_of g r) (flat_map (elements_of g) (drop (k + 1) rows))
     ∙ ap (λ n. n + length (flat_map (elements_of g) (drop (k + 1) rows))) (length-places (row g r).place (row g r).stride (row g r).count)
+
+-- ---- counts
+
+pub one_more_time : (counts rows : List ℕ) (row r : ℕ) → row < length counts → r < length counts → ((q : ℕ) → q < length counts → slice_index counts q ≡ times q rows) → slice_index (set counts row (slice_index counts row + 1)) r ≡ times r (rows ++ row ∷ [])
+one_more_time counts rows row r h k e =
+    elim (cases_eq row r) [
+      | inl same ↦ omega (
+        arith,
+        ap (slice_index (set counts row (slice_index counts row + 1))) (sym same),
+        get_or-set_same counts row (slice_index counts row + 1) 0 h,
+        e row h,
+        more r,
+        ap (λ q. times q rows) same,
+        ap bit (eq-eqb row r same),
+      )
+      | inr other ↦ omega (
+        arith,
+        get_or-set_other counts row r (slice_index counts row + 1) 0 (λ same. other (sym same)),
+        e r k,
+        more r,
+        ap bit (ne_eqb row r other),
+      )
+    ]
+  where
+    more : (q : ℕ) → times q (rows ++ row ∷ []) ≡ times q rows + bit (row == q)
+    more q =
+        let is = tally_is (λ x. x == q) (rows ++ row ∷ []) in
+        let was = tally_is (λ x. x == q) rows in
+        let both = tally-append (λ x. x == q) rows (row ∷ []) in
+        omega (arith, is, was, both)

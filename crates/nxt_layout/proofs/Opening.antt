@@ -1,5 +1,6 @@
 -- Where a table spells whole variables, and where it doesn't.
 use Rattle.std.proofs.Common.{◌≡◌, ℕ, zero, suc, ◌+◌, ◌-◌, ◌<◌, ◌≤◌, List, [], ◌∷◌, ◌++◌, refl, sym, ap, ◌∙◌, subst, length, arith, append_assoc, append-nil, Bool, true, false, ◌&&◌, ◌⊎◌, inl, inr, ⊎_elim, take, drop, true≢false, Option, Some, None}
+use Rattle.std.proofs.lemmas.Bool.{and_parts, and_from}
 use Rattle.std.specs.Prelude.{nat_lt, ◌==◌, map, IsTrue, if◌then◌else◌, max}
 use Rattle.std.proofs.lemmas.Bool.Decides.{nat_tests}
 use Rattle.nxt_types.specs.declared.kind.Kind.{Kind}
@@ -34,10 +35,6 @@ number_item Sword = refl
 number_item Ulong = refl
 number_item Slong = refl
 
-pub both : (a b : Bool) → IsTrue (a && b) → IsTrue a × IsTrue b
-both true b h = (refl, h)
-both false b h = absurd (true≢false (sym h))
-
 suc_not_zero : (n : ℕ) → (suc n == 0) ≡ false
 suc_not_zero n = grind (arith, nat_tests)
 
@@ -68,7 +65,7 @@ mutual
       step start n i (suc n) (7, 0) (spelling s ++ os) refl same ∙ over_shape s start n (i + 1) os f v
       ∙ at_place start n (i + 1 + size s) (i + (size s + 1)) os (omega arith)
   over_shape (Cluster ss) start n i os f v =
-      let g = both (nat_lt 0 (count ss)) (are_filled ss) f in
+      let g = and_parts (nat_lt 0 (count ss)) (are_filled ss) f in
       let more : suc n - 1 + count ss ≡ count ss + n = omega arith in
       step start n i (count ss + n) (8, count ss) (spellings ss ++ os) (positive (count ss) g.0) more
       ∙ over_shapes ss start n (i + 1) os g.1 v ∙ at_place start n (i + 1 + sizes ss) (i + (sizes ss + 1)) os (omega arith)
@@ -81,8 +78,8 @@ mutual
       let a : 0 + n ≡ n = omega arith in
       ap (λ k. open_from start k i os) a ∙ at_place start n i (i + 0) os (omega arith)
   over_shapes (member s ss) start n i os f v =
-      let f2 = both (is_filled s) (are_filled ss) f in
-      let v2 = both (no_void s) (no_voids ss) v in
+      let f2 = and_parts (is_filled s) (are_filled ss) f in
+      let v2 = and_parts (no_void s) (no_voids ss) v in
       let a : count ss + 1 + n ≡ suc (count ss + n) = omega arith in
       ap (λ k. open_from start k i (spellings (member s ss) ++ os)) a
       ∙ ap (open_from start (suc (count ss + n)) i) (append_assoc (spelling s) (spellings ss) os)
@@ -135,8 +132,8 @@ pub over_variables : (ss : Members) (start i : ℕ) (os : List (ℕ × ℕ)) →
     open_from start 0 i (spellings ss ++ os) ≡ open_from start 0 (i + sizes ss) os
 over_variables no_members start i os f v = at_place start 0 i (i + 0) os (omega arith)
 over_variables (member s ss) start i os f v =
-    let f2 = both (is_filled s) (are_filled ss) f in
-    let v2 = both (is_variable s) (are_variables ss) v in
+    let f2 = and_parts (is_filled s) (are_filled ss) f in
+    let v2 = and_parts (is_variable s) (are_variables ss) v in
     ap (open_from start 0 i) (append_assoc (spelling s) (spellings ss) os)
     ∙ over_variable s start i (spellings ss ++ os) f2.0 v2.0
     ∙ over_variables ss start (i + size s) os f2.1 v2.1
@@ -161,10 +158,6 @@ not_broken : (b : Bool) (x : Option ℕ) (w : ℕ) → (if b then Some w else x)
 not_broken true x w e = cc
 not_broken false x w e = (refl, e)
 
-pub join : (a b : Bool) → IsTrue a → IsTrue b → IsTrue (a && b)
-join true b h k = k
-join false b h k = h
-
 -- a leaf before n shapes
 with_leaf : (s : Shape) (o : ℕ × ℕ) (n : ℕ) (os : List (ℕ × ℕ)) → spelling s ≡ o ∷ [] → IsTrue (is_filled s) → IsTrue (no_void s) → bare s ≡ s →
     Split n os → Split (suc n) (o ∷ os)
@@ -174,8 +167,8 @@ with_leaf s o n os e f v p r =
       variables = r.variables;
       whole = ap (λ l. o ∷ l) r.whole ∙ ap (λ l. (l ++ spellings r.inner) ++ spellings r.variables) (sym e);
       counts = let c = r.counts in omega (arith, c);
-      filled = join (is_filled s) (are_filled r.inner) f r.filled;
-      voids = join (no_void s) (no_voids r.inner) v r.voids;
+      filled = and_from (is_filled s) (are_filled r.inner) f r.filled;
+      voids = and_from (no_void s) (no_voids r.inner) v r.voids;
       plain = ap (λ q. member q (bares r.inner)) p ∙ ap (member s) r.plain;
       filled_variables = r.filled_variables;
       right = r.right;
@@ -213,17 +206,17 @@ filled_apart : (n : ℕ) (ss : Members) → IsTrue (are_filled ss) → IsTrue (a
 filled_apart zero ss h = (refl, h)
 filled_apart (suc n) no_members h = (refl, refl)
 filled_apart (suc n) (member s ss) h =
-    let g = both (is_filled s) (are_filled ss) h in
+    let g = and_parts (is_filled s) (are_filled ss) h in
     let r = filled_apart n ss g.1 in
-    (join (is_filled s) (are_filled (first_members n ss)) g.0 r.0, r.1)
+    (and_from (is_filled s) (are_filled (first_members n ss)) g.0 r.0, r.1)
 
 voids_apart : (n : ℕ) (ss : Members) → IsTrue (no_voids ss) → IsTrue (no_voids (first_members n ss)) × IsTrue (no_voids (later_members n ss))
 voids_apart zero ss h = (refl, h)
 voids_apart (suc n) no_members h = (refl, refl)
 voids_apart (suc n) (member s ss) h =
-    let g = both (no_void s) (no_voids ss) h in
+    let g = and_parts (no_void s) (no_voids ss) h in
     let r = voids_apart n ss g.1 in
-    (join (no_void s) (no_voids (first_members n ss)) g.0 r.0, r.1)
+    (and_from (no_void s) (no_voids (first_members n ss)) g.0 r.0, r.1)
 
 abbrev first_shape : Members → Shape
 first_shape no_members = Void
@@ -247,16 +240,16 @@ with_array n os r = at r.inner refl
     at : (ss : Members) → ss ≡ r.inner → Split (suc n) ((7, 0) ∷ os)
     at no_members e = absurd (let c = ap count e in let d = r.counts in omega (arith, c, d))
     at (member s ss) e =
-        let f = both (is_filled s) (are_filled ss) (subst (λ q. IsTrue (are_filled q)) (sym e) r.filled) in
-        let v = both (no_void s) (no_voids ss) (subst (λ q. IsTrue (no_voids q)) (sym e) r.voids) in
+        let f = and_parts (is_filled s) (are_filled ss) (subst (λ q. IsTrue (are_filled q)) (sym e) r.filled) in
+        let v = and_parts (no_void s) (no_voids ss) (subst (λ q. IsTrue (no_voids q)) (sym e) r.voids) in
         let p = plain_apart 1 (member s ss) (ap bares e ∙ r.plain ∙ sym e) in
         record {
           inner = member (Array 0 s) ss;
           variables = r.variables;
           whole = ap (λ l. (7, 0) ∷ l) (r.whole ∙ ap (λ q. spellings q ++ spellings r.variables) (sym e));
           counts = ap count e ∙ r.counts;
-          filled = join (is_filled s) (are_filled ss) f.0 f.1;
-          voids = join (no_void s) (no_voids ss) v.0 v.1;
+          filled = and_from (is_filled s) (are_filled ss) f.0 f.1;
+          voids = and_from (no_void s) (no_voids ss) v.0 v.1;
           plain = ap (λ q. member (Array 0 q) (bares ss)) (ap first_shape p.0) ∙ ap (member (Array 0 s)) p.1;
           filled_variables = r.filled_variables;
           right = r.right;
@@ -281,8 +274,8 @@ with_cluster m n os pos r =
           ap (λ l. (8, m) ∷ l) (r.whole ∙ ap (λ l. l ++ spellings r.variables) (spelled_apart m r.inner))
           ∙ ap (λ k. (8, k) ∷ ((spellings ss ++ spellings ts) ++ spellings r.variables)) (sym cs);
       counts = omega (arith, ct, c);
-      filled = join (nat_lt 0 (count ss) && are_filled ss) (are_filled ts) (join (nat_lt 0 (count ss)) (are_filled ss) (subst (λ k. IsTrue (nat_lt 0 k)) (sym cs) pos) f.0) f.1;
-      voids = join (no_voids ss) (no_voids ts) v.0 v.1;
+      filled = and_from (nat_lt 0 (count ss) && are_filled ss) (are_filled ts) (and_from (nat_lt 0 (count ss)) (are_filled ss) (subst (λ k. IsTrue (nat_lt 0 k)) (sym cs) pos) f.0) f.1;
+      voids = and_from (no_voids ss) (no_voids ts) v.0 v.1;
       plain = ap (λ q. member (Cluster q) (bares ts)) p.0 ∙ ap (member (Cluster ss)) p.1;
       filled_variables = r.filled_variables;
       right = r.right;
@@ -305,8 +298,8 @@ with_variable os r = at r.inner refl
     at no_members e = absurd (let c = ap count e in let d = r.counts in omega (arith, c, d))
     at (member s (member t ts)) e = absurd (let c = ap count e in let d = r.counts in omega (arith, c, d))
     at (member s no_members) e =
-        let f = both (is_filled s) true (subst (λ q. IsTrue (are_filled q)) (sym e) r.filled) in
-        let v = both (no_void s) true (subst (λ q. IsTrue (no_voids q)) (sym e) r.voids) in
+        let f = and_parts (is_filled s) true (subst (λ q. IsTrue (are_filled q)) (sym e) r.filled) in
+        let v = and_parts (no_void s) true (subst (λ q. IsTrue (no_voids q)) (sym e) r.voids) in
         let p = ap first_shape (ap bares e ∙ r.plain ∙ sym e) in
         record {
           inner = no_members;
@@ -316,8 +309,8 @@ with_variable os r = at r.inner refl
           filled = refl;
           voids = refl;
           plain = refl;
-          filled_variables = join (is_filled s) (are_filled r.variables) f.0 r.filled_variables;
-          right = join (is_variable s) (are_variables r.variables) (variable_of s v.0) r.right;
+          filled_variables = and_from (is_filled s) (are_filled r.variables) f.0 r.filled_variables;
+          right = and_from (is_variable s) (are_variables r.variables) (variable_of s v.0) r.right;
           plain_variables = ap (λ q. member q (bares r.variables)) p ∙ ap (member s) r.plain_variables;
         }
 

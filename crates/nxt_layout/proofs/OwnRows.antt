@@ -1,14 +1,15 @@
 -- Where each row is reached at most once, each list has a row of its own; where no rows share a byte, no lists do.
-use Rattle.std.proofs.Common.{◌≡◌, ◌≢◌, ℕ, zero, suc, ◌+◌, ◌≤◌, ◌<◌, Bool, true, false, cond, ◌||◌, ◌==◌, nat_lt, List, [], ◌∷◌, length, get_or, AllPairs, refl, sym, subst, arith, eq-eqb, ltb-true, lt-ltb, zero-lt-suc}
+use Rattle.std.proofs.Common.{◌≡◌, ◌≢◌, ℕ, zero, suc, ◌+◌, ◌≤◌, ◌<◌, Bool, true, false, cond, ◌==◌, nat_lt, List, [], ◌∷◌, length, get_or, AllPairs, refl, sym, ◌∙◌, subst, arith, eq-eqb, ltb-true, lt-ltb, zero-lt-suc}
 use Rattle.std.specs.List.{list_any}
 use Rattle.std.proofs.lemmas.Bool.{and_from, eqb-false}
 use Rattle.nxt_types.specs.Shapes.{Shape, Void, Number, Array, Cluster, Mutex, Members, no_members, member}
 use Rattle.nxt_types.specs.Names.{size}
 use Rattle.nxt_model.specs.Reading.{HeldList, with_row}
 use Rattle.nxt_layout.specs.Rows.{Ground, row, has_elements, elements_of, reached, is_full}
-use Rattle.nxt_layout.proofs.Each.{Each, each_from, each_then, each_both, each_join, each_flat, each_filter, bit, tally}
+use Rattle.nxt_layout.proofs.Each.{Each, each_from, each_then, each_both, each_join, each_flat, each_filter}
+use Rattle.nxt_layout.proofs.Totals.{bit, tally, is_it, any_is}
 use Rattle.nxt_layout.proofs.Found.{number_at, row_lists, lists_at, lists_among}
-use Rattle.nxt_layout.proofs.RowCounts.{is_row, is_it}
+use Rattle.nxt_layout.proofs.RowCounts.{is_row}
 
 -- ---- pairs
 
@@ -33,10 +34,6 @@ none_here : (b : Bool) (n : ℕ) → bit b + n ≡ 0 → b ≡ false
 none_here true n e = let f : ⊥ = omega (arith, e) in absurd f
 none_here false n e = refl
 
-some_here : (b : Bool) (n : ℕ) (more : Bool) → 0 < bit b + n → (0 < n → more ≡ true) → (b || more) ≡ true
-some_here true n more h k = refl
-some_here false n more h k = k (omega (arith, h))
-
 below_one : (a n : ℕ) → a + n ≤ 1 → n ≤ 1
 below_one a n h = omega arith
 
@@ -45,8 +42,7 @@ none_counted p [] e = tt
 none_counted p (x ∷ xs) e = (none_here (p x) (tally p xs) e, none_counted p xs (omega (arith, e)))
 
 some_counted : {X : Type 0} (p : X → Bool) (xs : List X) → 0 < tally p xs → list_any p xs ≡ true
-some_counted p [] h = let f : ⊥ = omega (arith, h) in absurd f
-some_counted p (x ∷ xs) h = some_here (p x) (tally p xs) (list_any p xs) h (some_counted p xs)
+some_counted p xs h = any_is p xs ∙ lt-ltb 0 (tally p xs) h
 
 counts_itself : (ls : List HeldList) → Each (λ l. 0 < tally (is_row l.row) ls) ls
 counts_itself [] = tt

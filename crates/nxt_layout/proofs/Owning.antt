@@ -1,5 +1,6 @@
 -- The least owner of a leaf's bytes is the first leaf that shares one.
 use Rattle.std.proofs.Common.{◌≡◌, ℕ, zero, suc, ◌+◌, ◌-◌, ◌<◌, ◌≤◌, max, List, [], ◌∷◌, ◌++◌, refl, sym, ap, ◌∙◌, length, arith, drop, drop-cons, get_or, Bool, true, false, ◌&&◌, true≢false, cond, All, Option, Some, None}
+use Rattle.std.proofs.lemmas.Bool.{and_parts, and_from, false_from_ne_true, le-leb, lt-ltb}
 use Rattle.std.proofs.lemmas.Bool.Decides.{nat_tests}
 use Rattle.std.proofs.lemmas.List.Elements.{All-nil, All-cons, All-append, All-head, All-tail}
 use Rattle.std.specs.Prelude.{find, nat_lt, nat_le, ◌==◌, option_map, if◌then◌else◌}
@@ -16,7 +17,6 @@ use Rattle.nxt_layout.specs.declared.leaves.Leaf.{Leaf}
 use Rattle.nxt_layout.specs.Items.{item}
 use Rattle.nxt_layout.specs.LeafPasses.{leaf_by, leaf_list, leaves_from, width_of, leaf_end, same_array, leaves_share, first_leaf, pair_or, first_pair}
 use Rattle.nxt_layout.specs.Owners.{Byte, byte_cmp, covers, IsLeastOwner, RisesFrom}
-use Rattle.nxt_layout.proofs.Opening.{both, join}
 
 -- ---- keys
 
@@ -73,13 +73,13 @@ IsSolid l = 0 < width_of l
 -- a leaf that covers a byte of another shares it
 covering : (l m : Leaf) (x : ℕ) → l.place ≤ x → x < leaf_end l → covers (l.array, x) m ≡ true → leaves_share l m ≡ true
 covering l m x p q h =
-    let a = both (same_array l.array m.array && nat_le m.place x) (nat_lt x (leaf_end m)) h in
-    let b = both (same_array l.array m.array) (nat_le m.place x) a.0 in
+    let a = and_parts (same_array l.array m.array && nat_le m.place x) (nat_lt x (leaf_end m)) h in
+    let b = and_parts (same_array l.array m.array) (nat_le m.place x) a.0 in
     let le : nat_le m.place x ≡ true = b.1 in
     let lt : nat_lt x (leaf_end m) ≡ true = a.1 in
     let one : nat_lt l.place (leaf_end m) ≡ true = grind (arith, nat_tests, lt) in
     let two : nat_lt m.place (leaf_end l) ≡ true = grind (arith, nat_tests, le) in
-    join (same_array l.array m.array && nat_lt l.place (leaf_end m)) (nat_lt m.place (leaf_end l)) (join (same_array l.array m.array) (nat_lt l.place (leaf_end m)) b.0 one) two
+    and_from (same_array l.array m.array && nat_lt l.place (leaf_end m)) (nat_lt m.place (leaf_end l)) (and_from (same_array l.array m.array) (nat_lt l.place (leaf_end m)) b.0 one) two
 
 record Shared (l m : Leaf) : Type 0 where
   at : ℕ
@@ -89,8 +89,8 @@ record Shared (l m : Leaf) : Type 0 where
 
 shared : (l m : Leaf) → IsSolid l → IsSolid m → leaves_share l m ≡ true → Shared l m
 shared l m s t h =
-    let a = both (same_array l.array m.array && nat_lt l.place (leaf_end m)) (nat_lt m.place (leaf_end l)) h in
-    let b = both (same_array l.array m.array) (nat_lt l.place (leaf_end m)) a.0 in
+    let a = and_parts (same_array l.array m.array && nat_lt l.place (leaf_end m)) (nat_lt m.place (leaf_end l)) h in
+    let b = and_parts (same_array l.array m.array) (nat_lt l.place (leaf_end m)) a.0 in
     let one : nat_lt l.place (leaf_end m) ≡ true = b.1 in
     let two : nat_lt m.place (leaf_end l) ≡ true = a.1 in
     let x : l.place < leaf_end m = grind (arith, nat_tests, one) in
@@ -100,20 +100,10 @@ shared l m s t h =
       from = omega arith;
       before = omega (arith, y, s);
       covered =
-          join (same_array l.array m.array && nat_le m.place (max l.place m.place)) (nat_lt (max l.place m.place) (leaf_end m))
-          (join (same_array l.array m.array) (nat_le m.place (max l.place m.place)) b.0 (at_most m.place (max l.place m.place) (omega arith)))
-          (below (max l.place m.place) (leaf_end m) (omega (arith, x, t)));
+          and_from (same_array l.array m.array && nat_le m.place (max l.place m.place)) (nat_lt (max l.place m.place) (leaf_end m))
+          (and_from (same_array l.array m.array) (nat_le m.place (max l.place m.place)) b.0 (le-leb m.place (max l.place m.place) (omega arith)))
+          (lt-ltb (max l.place m.place) (leaf_end m) (omega (arith, x, t)));
     }
-  where
-    at_most : (a b : ℕ) → a ≤ b → nat_le a b ≡ true
-    at_most a b h = grind (arith, nat_tests)
-
-    below : (a b : ℕ) → a < b → nat_lt a b ≡ true
-    below a b h = grind (arith, nat_tests)
-
-not_true : (b : Bool) → (b ≡ true → ⊥) → b ≡ false
-not_true true h = absurd (h refl)
-not_true false h = refl
 
 -- ---- the first on a byte
 
@@ -145,7 +135,7 @@ module _ (l : Leaf) (solid : IsSolid l) where
   -- the first leaf on its bytes is that of the rest, where the first shares none
   passed : (m : Leaf) (ls : List Leaf) → leaves_share l m ≡ false → (x : ℕ) → l.place ≤ x → x < leaf_end l → first_on (m ∷ ls) (l.array, x) ≡ first_on ls (l.array, x)
   passed m ls f x p q =
-      let n : covers (l.array, x) m ≡ false = not_true (covers (l.array, x) m) (λ t. true≢false (sym (covering l m x p q t) ∙ f)) in
+      let n : covers (l.array, x) m ≡ false = false_from_ne_true (covers (l.array, x) m) (λ t. true≢false (sym (covering l m x p q t) ∙ f)) in
       first_here (covers (l.array, x)) m ls ∙ ap (λ b. if b then Some m.entry else first_on ls (l.array, x)) n
 
   rest_owns : (m : Leaf) (ls : List Leaf) (o : Option ℕ) → leaves_share l m ≡ false → IsLeastOwner (first_on (m ∷ ls)) l (leaf_end l) o → IsLeastOwner (first_on ls) l (leaf_end l) o

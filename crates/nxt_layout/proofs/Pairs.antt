@@ -1,6 +1,6 @@
 -- The first pair of leaves that share a byte.
 use Rattle.std.proofs.Common.{◌≡◌, ℕ, ◌+◌, ◌<◌, ◌≤◌, List, [], ◌∷◌, refl, sym, ap, ◌∙◌, subst, arith, Bool, true, false, ◌&&◌, true≢false, cond, ◌⊎◌, inl, inr, ⊎_elim, Option, Some, None}
-use Rattle.std.proofs.lemmas.Bool.{cases_lt}
+use Rattle.std.proofs.lemmas.Bool.{cases_lt, and_parts}
 use Rattle.std.proofs.lemmas.Bool.Decides.{nat_tests}
 use Rattle.std.specs.Prelude.{map, find, nat_lt, ◌==◌, IsTrue, option_map}
 use Rattle.nxt_types.specs.Refusals.{passes, comes_first}
@@ -8,7 +8,6 @@ use Rattle.nxt_layout.specs.declared.leaves.Leaf as flats
 use Rattle.nxt_layout.specs.Leaves.{Leaf, leaf_of, end_of, are_together}
 use Rattle.nxt_layout.specs.LayoutRules.{share_a_byte}
 use Rattle.nxt_layout.specs.LeafPasses.{first_leaf, leaves_share, pair_or, first_pair}
-use Rattle.nxt_layout.proofs.Opening.{both}
 use Rattle.nxt_layout.proofs.LeafLemmas.{flat, flat_share, Rising, first_entry, found_leaf, least_leaf, none_below}
 
 -- the leaf of an entry has that entry
@@ -44,9 +43,9 @@ there ls a b h = at (leaf_of ls a) refl (leaf_of ls b) refl h
 
 entries_rise : (l m : Leaf) → IsTrue (share_a_byte l m) → l.entry < m.entry
 entries_rise l m h =
-    let a = both (nat_lt l.entry m.entry && are_together l.arrays m.arrays && nat_lt l.place (end_of m)) (nat_lt m.place (end_of l)) h in
-    let b = both (nat_lt l.entry m.entry && are_together l.arrays m.arrays) (nat_lt l.place (end_of m)) a.0 in
-    let c = both (nat_lt l.entry m.entry) (are_together l.arrays m.arrays) b.0 in
+    let a = and_parts (nat_lt l.entry m.entry && are_together l.arrays m.arrays && nat_lt l.place (end_of m)) (nat_lt m.place (end_of l)) h in
+    let b = and_parts (nat_lt l.entry m.entry && are_together l.arrays m.arrays) (nat_lt l.place (end_of m)) a.0 in
+    let c = and_parts (nat_lt l.entry m.entry) (are_together l.arrays m.arrays) b.0 in
     let lt : nat_lt l.entry m.entry ≡ true = c.0 in
     grind (arith, nat_tests, lt)
 
@@ -118,7 +117,7 @@ pair_passes (l ∷ ls) i a b r e = at (first_entry (share_a_byte l) ls) refl (pa
         let lt = in_order ls a b (there ls a b g.1) in
         (omega (arith, r.0, g.0), kept l ls a b (omega (arith, g.0)) (omega (arith, g.0, lt)) g.1)
 
-comes : (a b c d : ℕ) → (a < c) ⊎ ((a ≡ c) × (b ≤ d)) → IsTrue (comes_first (a ∷ b ∷ []) (c ∷ d ∷ []))
+pub comes : (a b c d : ℕ) → (a < c) ⊎ ((a ≡ c) × (b ≤ d)) → IsTrue (comes_first (a ∷ b ∷ []) (c ∷ d ∷ []))
 comes a b c d h = ⊎_elim (λ (p : a < c). grind (arith, nat_tests)) (λ p. let x : a ≡ c = p.0 in let y : b ≤ d = p.1 in grind (arith, nat_tests)) h
 
 record Least (ls : List Leaf) (a b : ℕ) : Type 0 where

@@ -7,10 +7,11 @@ use Rattle.nxt_types.specs.Names.{size}
 use Rattle.nxt_layout.specs.Leaves.{Leaf, extent}
 use Rattle.nxt_layout.specs.Rows.{Ground, row, has_elements, is_placed, is_strided_by, is_array, names_row, numbers_at, read_by, elements_of, element_places, numbers_of, reached_through}
 use Rattle.nxt_layout.specs.RowPasses.{Through, rows_of, is_beyond, all_rows}
-use Rattle.nxt_layout.proofs.Each.{Each, each_apart, each_join, tally}
+use Rattle.nxt_layout.proofs.Each.{Each, each_apart, each_join}
+use Rattle.nxt_layout.proofs.Totals.{tally, is_it}
 use Rattle.nxt_layout.proofs.Fair.{leaf_in, leaves_in, leaves_among}
 use Rattle.nxt_layout.proofs.Found.{number_at}
-use Rattle.nxt_layout.proofs.RowCounts.{is_it, arrays_among}
+use Rattle.nxt_layout.proofs.RowCounts.{arrays_among}
 use Rattle.nxt_layout.proofs.Twice.{AreAlike, alike_then, alike-append, alike-map, alike-filter, alike-flat_map, alike_any, alike_all, rows_alike, rows_exact}
 
 -- ---- what is found

@@ -4,6 +4,7 @@ use Rattle.std.specs.List.{list_any}
 use Rattle.std.proofs.lemmas.Bool.{and_parts, and_from, or_left, or_right, cases_lt}
 use Rattle.std.proofs.lemmas.List.Folds.{list_any-append}
 use Rattle.std.proofs.lemmas.Map.Views.{any-filter_same}
+use Rattle.std.proofs.Math.Bool.{and_comm}
 use Rattle.nxt_types.specs.declared.kind.Kind.{Kind}
 use Rattle.nxt_types.specs.declared.kind.Kind.TheVariants.{Ubyte, Sbyte, Uword, Sword, Ulong, Slong}
 use Rattle.nxt_types.specs.declared.shape.TocEntry.{TocEntry}
@@ -18,21 +19,21 @@ use Rattle.nxt_layout.specs.declared.leaves.Leaf as flats
 use Rattle.nxt_layout.specs.declared.spans.Span.{Span}
 use Rattle.nxt_layout.specs.Leaves.{Leaf, AreShapes, leaf_of, extent, leaves}
 use Rattle.nxt_layout.specs.Rows.{Ground, row, row_end, has_elements, is_placed, is_strided, is_strided_by, is_array, reached_through, reached, arrays_of, is_full}
-use Rattle.nxt_layout.specs.RowPasses.{Through, bare_ground, extent_in, array_leaves, through_from, times, all_rows, first_beyond, first_below, least, misstrided_in, is_full_in, spans_share, first_spans, SpansRise, table_span, row_span, spans_from, spans_of}
+use Rattle.nxt_layout.specs.RowPasses.{Through, bare_ground, extent_in, array_leaves, through_from, times, all_rows, first_beyond, first_below, least, misstrided_in, is_full_in, spans_share, first_spans, table_span, row_span, spans_from, spans_of}
 use Rattle.nxt_layout.specs.LayoutRules.{has_table, lacks_table, names_no_row, is_shared, is_missstrided, is_row_misplaced, place_of_row, end_of_row, rows_share_a_byte}
 use Rattle.nxt_layout.specs.Start.{ground}
 use Rattle.nxt_layout.specs.Layouts.{spells_array, ground_in, arrays_in, rows_fault, row_fault}
-use Rattle.nxt_layout.proofs.Each.{tally, tally_is}
+use Rattle.nxt_layout.proofs.Totals.{tally, is_it, tally_is, any_is}
 use Rattle.nxt_layout.proofs.LeafLemmas.{Rising, table_rises, table_leaves, first_entry, first_leaf_passes, first_leaf_least, no_leaf_passes}
 use Rattle.nxt_layout.proofs.LeafOrder.{rising_filter}
-use Rattle.nxt_layout.proofs.RowCounts.{is_it}
 use Rattle.nxt_layout.proofs.Starting.{same_dataspace}
 use Rattle.nxt_layout.proofs.StartSize.{reached_below}
-use Rattle.nxt_layout.proofs.Twice.{AreAlike, any_is, alike_any, alike_all, alike_two}
+use Rattle.nxt_layout.proofs.Twice.{AreAlike, alike_any, alike_all, alike_two}
 use Rattle.nxt_layout.proofs.Reached.{few_rows, few_through, leaf_rows_alike, all_rows_alike, beyond_same}
 use Rattle.nxt_layout.proofs.Scanned.{bare, through_is}
 use Rattle.nxt_layout.proofs.Leading.{each_among, least_among, least_found}
-use Rattle.nxt_layout.proofs.SpanLemmas.{SpansShare, share_from, first_spans_pass, first_spans_least, no_spans_pass}
+use Rattle.nxt_layout.proofs.Below.{IsFirst, first_alike, first_in, spans_same, all_rise, is_first}
+use Rattle.nxt_layout.proofs.SpanLemmas.{span_of, SpansShare, share_from, first_spans_pass, first_spans_least, no_spans_pass}
 
 -- ---- arrays
 
@@ -71,68 +72,11 @@ arrays_same table ss h = any_outline table ∙ ap (list_any begins_array) h.spel
 
 -- ---- what is found first
 
--- the least number that passes the test, or none does
-pub record IsFirst (test : ℕ → Bool) (o : Option ℕ) : Type 0 where
-  pub here : (w : ℕ) → o ≡ Some w → test w ≡ true
-  pub least : (w v : ℕ) → o ≡ Some w → test v ≡ true → w ≤ v
-  pub none : (v : ℕ) → o ≡ None → test v ≡ true → ⊥
-
 -- the pair that comes first of those that pass the test, or none does
 pub record IsFirstPair (test : ℕ → ℕ → Bool) (o : Option (ℕ × ℕ)) : Type 0 where
   pub here : (w : ℕ × ℕ) → o ≡ Some w → test w.0 w.1 ≡ true
   pub least : (w : ℕ × ℕ) (q r : ℕ) → o ≡ Some w → test q r ≡ true → IsTrue (comes_first (w.0 ∷ w.1 ∷ []) (q ∷ r ∷ []))
   pub none : (q r : ℕ) → o ≡ None → test q r ≡ true → ⊥
-
--- by another test that agrees
-first_alike : (f h : ℕ → Bool) (o : Option ℕ) → ((r : ℕ) → f r ≡ h r) → IsFirst f o → IsFirst h o
-first_alike f h o same first =
-    record {
-      here = λ w e. sym (same w) ∙ first.here w e;
-      least = λ w v e t. first.least w v e (same v ∙ t);
-      none = λ v e t. first.none v e (same v ∙ t);
-    }
-
-module _ (test : ℕ → Bool) where
-  -- what is found passes
-  found_passes : (r n w : ℕ) → first_below test r n ≡ Some w → test w ≡ true
-  found_passes r zero w e = cc
-  found_passes r (suc n) w e = at (test r) refl (found_passes (r + 1) n w)
-    where
-      at : (b : Bool) → test r ≡ b → (first_below test (r + 1) n ≡ Some w → test w ≡ true) → test w ≡ true
-      at true f ih =
-          let s : Some r ≡ Some w = sym (ap (λ b. if b then Some r else first_below test (r + 1) n) f) ∙ e in
-          let same : r ≡ w = cc in
-          ap test (sym same) ∙ f
-      at false f ih = ih (sym (ap (λ b. if b then Some r else first_below test (r + 1) n) f) ∙ e)
-
-  -- where a number passes, one up to it is found
-  found_before : (r n v : ℕ) → test v ≡ true → r ≤ v → v < r + n → (w : ℕ) × (first_below test r n ≡ Some w) × (w ≤ v)
-  found_before r zero v h low high = absurd (omega (arith, low, high))
-  found_before r (suc n) v h low high = at (test r) refl (found_before (r + 1) n v h)
-    where
-      at : (b : Bool) → test r ≡ b → (r + 1 ≤ v → v < r + 1 + n → (w : ℕ) × (first_below test (r + 1) n ≡ Some w) × (w ≤ v)) → (w : ℕ) × (first_below test r (suc n) ≡ Some w) × (w ≤ v)
-      at true f ih = (r, ap (λ b. if b then Some r else first_below test (r + 1) n) f, low)
-      at false f ih =
-          elim (cases_lt r v) [
-            | inl less ↦ let x = ih (omega (arith, less)) (omega (arith, high)) in
-                (x.0, ap (λ b. if b then Some r else first_below test (r + 1) n) f ∙ x.1, x.2)
-            | inr more ↦ let same : v ≡ r = omega (arith, low, more) in absurd (true≢false (sym h ∙ ap test same ∙ f))
-          ]
-
-  -- where only numbers below n pass
-  first_in : (n : ℕ) → ((v : ℕ) → test v ≡ true → v < n) → IsFirst test (first_below test 0 n)
-  first_in n below =
-      record {
-        here = λ w e. found_passes 0 n w e;
-        least = λ w v e h.
-            let x = found_before 0 n v h (omega arith) (omega (arith, below v h)) in
-            let s : Some w ≡ Some x.0 = sym e ∙ x.1 in
-            let same : w ≡ x.0 = cc in
-            omega (arith, same, x.2);
-        none = λ v e h.
-            let x = found_before 0 n v h (omega arith) (omega (arith, below v h)) in
-            let s : None ≡ Some x.0 = sym e ∙ x.1 in cc;
-      }
 
 -- ---- what the passes go over
 
@@ -250,12 +194,6 @@ strided_alike g bytes xs ys h r =
     (λ b. not (has_elements g r) || (nat_le bytes (row g r).stride && b))
     (alike_all (λ q. not (nat_lt q r && has_elements g q) || ((row g q).stride == (row g r).stride)) xs ys h)
 
-and_swapped : (a b : Bool) → (a && b) ≡ (b && a)
-and_swapped true true = refl
-and_swapped true false = refl
-and_swapped false true = refl
-and_swapped false false = refl
-
 -- of a leaf
 abbrev is_odd_at : Ground → ℕ → Leaf → Bool
 is_odd_at g r l =
@@ -276,7 +214,7 @@ odd_through g r l =
     (λ (a b : Bool). not a && b)
     (strided_alike g bytes rows (reached_through g l) alike r)
     (alike_any (is_it r) rows (reached_through g l) alike)
-    ∙ and_swapped (not (is_strided g l.entry (reached_through g l) r)) (list_any (is_it r) (reached_through g l))
+    ∙ and_comm (not (is_strided g l.entry (reached_through g l) r)) (list_any (is_it r) (reached_through g l))
 
 odd_among : (g : Ground) (r : ℕ) (ls : List Leaf) → list_any (is_it r) (flat_map (misstrided_in g) (map (few_through g) ls)) ≡ list_any (is_odd_at g r) ls
 odd_among g r [] = refl
@@ -288,17 +226,11 @@ pub misstrided_first : (g : Ground) → IsFirst (is_missstrided g) (misstrided_a
 misstrided_first g =
     let rows = flat_map (misstrided_in g) (few g) in
     let same : (r : ℕ) → list_any (is_it r) rows ≡ is_missstrided g r = λ r. odd_among g r (arrays_of g) in
-    record {
-      here = λ w e. sym (same w) ∙ least_among rows w e;
-      least = λ w v e h.
-          let x = least_found rows v (same v ∙ h) in
-          let s : Some w ≡ Some x.0 = sym e ∙ x.1 in
-          let one : w ≡ x.0 = cc in
-          omega (arith, one, x.2);
-      none = λ v e h.
-          let x = least_found rows v (same v ∙ h) in
-          let s : None ≡ Some x.0 = sym e ∙ x.1 in cc;
-    }
+    is_first
+    (is_missstrided g)
+    (misstrided_at g)
+    (λ w e. sym (same w) ∙ least_among rows w e)
+    (λ v h. least_found rows v (same v ∙ h))
 
 -- ---- rows that are misplaced
 
@@ -325,11 +257,6 @@ misplaced_first g =
 abbrev pub sharing_at : Ground → Option (ℕ × ℕ)
 sharing_at g = first_spans (spans_of g (is_full_in g (all_rows (few g))))
 
-spans_alike : (g : Ground) (f h : ℕ → Bool) → ((r : ℕ) → f r ≡ h r) → (r n : ℕ) → spans_from g f r n ≡ spans_from g h r n
-spans_alike g f h same r zero = refl
-spans_alike g f h same r (suc n) =
-    ap₂ (λ (b : Bool) (ss : List Span). if b then row_span g r ∷ ss else ss) (same r) (spans_alike g f h same (r + 1) n)
-
 -- those of the rows that are reached and have elements, and the table's
 abbrev full_spans : Ground → List Span
 full_spans g = spans_of g (is_full g)
@@ -338,25 +265,7 @@ sharing_full : (g : Ground) → sharing_at g ≡ first_spans (full_spans g)
 sharing_full g =
     ap
     (λ ss. first_spans (table_span g ∷ ss))
-    (spans_alike g (is_full_in g (all_rows (few g))) (is_full g) (full_same g) 1 (row_count g.memory - 1))
-
-later_rise : (r : ℕ) (ss : List Span) → SpansRise (r + 1) ss → SpansRise r ss
-later_rise r [] h = tt
-later_rise r (s ∷ ss) h = (omega (arith, h.0), h.1, h.2)
-
-rows_rise : (g : Ground) (full : ℕ → Bool) (r n : ℕ) → SpansRise r (spans_from g full r n)
-rows_rise g full r zero = tt
-rows_rise g full r (suc n) = at (full r) (rows_rise g full (r + 1) n)
-  where
-    at : (b : Bool) → SpansRise (r + 1) (spans_from g full (r + 1) n) → SpansRise r (if b then row_span g r ∷ spans_from g full (r + 1) n else spans_from g full (r + 1) n)
-    at true h = (omega arith, omega arith, h)
-    at false h = later_rise r (spans_from g full (r + 1) n) h
-
-spans_rise : (g : Ground) → SpansRise 0 (full_spans g)
-spans_rise g = (omega arith, omega arith, rows_rise g (is_full g) 1 (row_count g.memory - 1))
-
-abbrev span_of : List Span → ℕ → Option Span
-span_of ss r = find (λ s. s.row == r) ss
+    (spans_same g (is_full_in g (all_rows (few g))) (is_full g) 1 (row_count g.memory - 1) (λ r least less. full_same g r))
 
 -- a full row has its span
 span_there : (g : Ground) (full : ℕ → Bool) (r n q : ℕ) → r ≤ q → q < r + n → full q ≡ true → span_of (spans_from g full r n) q ≡ Some (row_span g q)
@@ -524,7 +433,7 @@ sharing_first g =
     let ss = full_spans g in
     let same = sharing_full g in
     record {
-      here = λ w e. sharing_back g w.0 w.1 (first_spans_pass ss w (spans_rise g) (sym same ∙ e));
-      least = λ w q r e h. first_spans_least ss w q r (spans_rise g) (sym same ∙ e) (sharing_there g q r h);
-      none = λ q r e h. no_spans_pass ss q r (spans_rise g) (sym same ∙ e) (sharing_there g q r h);
+      here = λ w e. sharing_back g w.0 w.1 (first_spans_pass ss w (all_rise g (is_full g)) (sym same ∙ e));
+      least = λ w q r e h. first_spans_least ss w q r (all_rise g (is_full g)) (sym same ∙ e) (sharing_there g q r h);
+      none = λ q r e h. no_spans_pass ss q r (all_rise g (is_full g)) (sym same ∙ e) (sharing_there g q r h);
     }

@@ -15,16 +15,18 @@ use Rattle.nxt_layout.specs.RowPasses.{Through, all_rows, list_count, is_full_in
 use Rattle.nxt_layout.specs.Start.{ground, stride_of, stride_of_row, stride_through, all_with_strides, file_rows}
 use Rattle.nxt_layout.specs.LayoutRules.{Broken}
 use Rattle.nxt_layout.specs.Layouts.{FileLayout, layout_of, bytes_of_parts, ground_in, arrays_in, rows_in_file, size_of_start}
-use Rattle.nxt_layout.proofs.Each.{Each, each_then, each_filter, tally, tally-append}
+use Rattle.nxt_layout.proofs.Each.{Each, each_then, each_filter}
+use Rattle.nxt_layout.proofs.Totals.{tally, tally-append, is_it}
+use Rattle.nxt_layout.proofs.SumsBelow.{sums_same}
 use Rattle.nxt_layout.proofs.Fair.{leaves_among}
 use Rattle.nxt_layout.proofs.Found.{values_among}
 use Rattle.nxt_layout.proofs.LeafOrder.{leaves_are, leaves_found}
-use Rattle.nxt_layout.proofs.RowCounts.{is_it, arrays_among}
+use Rattle.nxt_layout.proofs.RowCounts.{arrays_among}
 use Rattle.nxt_layout.proofs.SameStrides.{same_strides}
 use Rattle.nxt_layout.proofs.StrideFree.{size_of_table, memory_with_strides}
 use Rattle.nxt_layout.proofs.RulesKept.{KeepsRows, are_kept, reached_once}
 use Rattle.nxt_layout.proofs.Starting.{same_dataspace}
-use Rattle.nxt_layout.proofs.StartSize.{start_bytes, start_size, start_by_row, numbers_in_places, rows_with_strides, below_same}
+use Rattle.nxt_layout.proofs.StartSize.{start_bytes, start_size, start_by_row, numbers_in_places, rows_with_strides}
 use Rattle.nxt_layout.proofs.Reached.{few_through, NamesOnce, IsExact, members_exact}
 use Rattle.nxt_layout.proofs.Scanned.{bare}
 use Rattle.nxt_layout.proofs.RowRules.{arrays_same, few, same_ground, same_arrays, full_same}
@@ -70,11 +72,11 @@ rows_same p plain shapes =
 
 full_bytes_same : (g : Ground) → full_bytes g (is_full_in g (all_rows (few g))) ≡ full_bytes g (is_full g)
 full_bytes_same g =
-    below_same
+    sums_same
     (λ r. if is_full_in g (all_rows (few g)) r then row_bytes g r else 0)
     (λ r. if is_full g r then row_bytes g r else 0)
-    (λ r. ap (λ b. if b then row_bytes g r else 0) (full_same g r))
     (row_count g.memory)
+    (λ r less. ap (λ b. if b then row_bytes g r else 0) (full_same g r))
 
 -- the bytes that the passes count
 abbrev sized : Parts → ℕ → ℕ → ℕ → ℕ

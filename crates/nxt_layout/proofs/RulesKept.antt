@@ -1,7 +1,7 @@
 -- What the rules 9 and 13 to 17 say of a file's leaves and rows, where none is broken.
 use Rattle.std.proofs.Common.{◌≡◌, ℕ, ◌+◌, ◌≤◌, ◌<◌, Bool, true, false, ◌&&◌, ◌||◌, not, ◌==◌, nat_lt, nat_le, List, [], ◌∷◌, ◌++◌, filter, flat_map, count_by, Some, if◌then◌else◌, inl, inr, refl, sym, ap, ◌∙◌, subst, eq-eqb, ltb-false}
 use Rattle.std.specs.List.{list_any}
-use Rattle.std.proofs.lemmas.Bool.{cases_Bool, false_from_ne_true, and_from, or_parts, leb-false}
+use Rattle.std.proofs.lemmas.Bool.{cases_Bool, false_from_ne_true, and_from, or_parts, leb-false, or_right}
 use Rattle.std.proofs.lemmas.List.Elements.{filter-append}
 use Rattle.nxt_types.specs.Refusals.{passes}
 use Rattle.nxt_types.specs.Shapes.{Shape, Void, Number, Array, Cluster, Mutex, Members, no_members, member, has_list, some_list}
@@ -14,20 +14,16 @@ use Rattle.nxt_layout.specs.Leaves.{leaves, leaf_of, end_of, extent, stands_in, 
 use Rattle.nxt_layout.specs.Rows.{Ground, is_placed, is_strided, has_elements, numbers_of, reached_through, reached, arrays_of, is_array, is_full}
 use Rattle.nxt_layout.specs.Start.{ground}
 use Rattle.nxt_layout.specs.LayoutRules.{Broken, OfShapes, of_rows, is_misplaced, names_no_row, is_shared, is_missstrided, is_row_misplaced, rows_share_a_byte, place_of_row, end_of_row}
-use Rattle.nxt_layout.proofs.Each.{Each, each_then, each_both, each_kept, each_part, tally, tally_is}
+use Rattle.nxt_layout.proofs.Each.{Each, each_then, each_both, each_kept, each_part}
+use Rattle.nxt_layout.proofs.Totals.{tally, tally_is, is_it}
 use Rattle.nxt_layout.proofs.Fair.{leaves_in, leaves_among, room, HasFairRows, IsFair}
 use Rattle.nxt_layout.proofs.LeafOrder.{leaves_found, some_found, in_extent}
-use Rattle.nxt_layout.proofs.RowCounts.{is_it}
 
 -- ---- tests of lists
 
 none_passes : {X : Type 0} (p : X → Bool) (xs : List X) → list_any p xs ≡ false → Each (λ x. p x ≡ false) xs
 none_passes p [] e = tt
 none_passes p (x ∷ xs) e = let two = or_parts (p x) (list_any p xs) e in (two.0, none_passes p xs two.1)
-
-any_later : (b more : Bool) → more ≡ true → (b || more) ≡ true
-any_later true more e = refl
-any_later false more e = e
 
 has_itself : (ns : List ℕ) → Each (λ r. list_any (is_it r) ns ≡ true) ns
 has_itself [] = tt
@@ -36,7 +32,7 @@ has_itself (n ∷ ns) = (
   each_then
       (λ r. list_any (is_it r) ns ≡ true)
       (λ r. list_any (is_it r) (n ∷ ns) ≡ true)
-      (λ r e. any_later (n == r) (list_any (is_it r) ns) e)
+      (λ r e. or_right (n == r) (list_any (is_it r) ns) e)
       ns
       (has_itself ns),
 )

@@ -1,5 +1,6 @@
 -- What the passes settle for the leaves and their defaults.
 use Rattle.std.proofs.Common.{◌≡◌, ℕ, ◌+◌, ◌%◌, ◌≤◌, List, [], ◌∷◌, refl, sym, ap, ◌∙◌, arith, Bool, true, false, cond, get_or, All, Option, Some, None}
+use Rattle.std.proofs.lemmas.Bool.{and_parts}
 use Rattle.std.proofs.lemmas.Bool.Decides.{nat_tests}
 use Rattle.std.proofs.lemmas.List.Elements.{All-nil, All-cons, All-append}
 use Rattle.std.specs.Prelude.{find, nat_lt, ◌==◌, option_map, is_none, if◌then◌else◌}
@@ -14,7 +15,6 @@ use Rattle.nxt_layout.specs.declared.leaves.Leaf.{Leaf}
 use Rattle.nxt_layout.specs.Items.{item}
 use Rattle.nxt_layout.specs.LeafPasses.{leaf_by, leaf_list, leaves_from, width_of, leaf_end, passes_end, first_leaf, first_pair, lacking_from}
 use Rattle.nxt_layout.specs.Layouts.{fault_or, pair_fault_or, leaf_fault, leaves_of}
-use Rattle.nxt_layout.proofs.Opening.{both}
 
 -- ---- passes that found nothing
 
@@ -47,10 +47,10 @@ IsOutside l = l.has_default ≡ true → is_none l.array ≡ true
 outside_list : (i : ℕ) (p : Placed) (o : Option Item) → All IsOutside (leaf_list i p o)
 outside_list i p None = All-nil IsOutside
 outside_list i p (Some items.Void) = All-nil IsOutside
-outside_list i p (Some (items.Number k)) = All-cons IsOutside (leaf_by i p (items.Number k)) [] (λ h. (both (is_none p.array) (p.entry.flags % 2 == 0) h).0) (All-nil IsOutside)
-outside_list i p (Some items.Array) = All-cons IsOutside (leaf_by i p items.Array) [] (λ h. (both (is_none p.array) (p.entry.flags % 2 == 0) h).0) (All-nil IsOutside)
+outside_list i p (Some (items.Number k)) = All-cons IsOutside (leaf_by i p (items.Number k)) [] (λ h. (and_parts (is_none p.array) (p.entry.flags % 2 == 0) h).0) (All-nil IsOutside)
+outside_list i p (Some items.Array) = All-cons IsOutside (leaf_by i p items.Array) [] (λ h. (and_parts (is_none p.array) (p.entry.flags % 2 == 0) h).0) (All-nil IsOutside)
 outside_list i p (Some (items.Cluster m)) = All-nil IsOutside
-outside_list i p (Some items.Mutex) = All-cons IsOutside (leaf_by i p items.Mutex) [] (λ h. (both (is_none p.array) (p.entry.flags % 2 == 0) h).0) (All-nil IsOutside)
+outside_list i p (Some items.Mutex) = All-cons IsOutside (leaf_by i p items.Mutex) [] (λ h. (and_parts (is_none p.array) (p.entry.flags % 2 == 0) h).0) (All-nil IsOutside)
 
 outside_leaves : (i : ℕ) (ps : List Placed) → All IsOutside (leaves_from i ps)
 outside_leaves i [] = All-nil IsOutside

@@ -14,6 +14,7 @@ use Rattle.nxt_layout.specs.Leaves.{Site, sites, sites_in, sites_among, AreShape
 use Rattle.nxt_layout.specs.Enclosing.{Mark, placed_by, placed_entries}
 use Rattle.nxt_layout.specs.Start.{with_strides, all_with_strides}
 use Rattle.nxt_layout.specs.Shaping.{stacked, array_of_first, shapes_from, first_shape, outside_shapes}
+use Rattle.nxt_layout.proofs.StrideFree.{size-with_strides}
 use Rattle.nxt_layout.proofs.Opening.{number_item}
 use Rattle.nxt_layout.proofs.Marks.{mark_of, site_head, table_marks, table_heads}
 
@@ -75,19 +76,6 @@ abbrev named : (ℕ → ℕ) → ℕ → List (ℕ × ℕ) → List Mark → Lis
 named f i [] ms = []
 named f i (o ∷ os) [] = []
 named f i (o ∷ os) (m ∷ ms) = (if is_none m.array then first_shape (built f i (o ∷ os)) else None) ∷ named f (i + 1) os ms
-
-mutual
-  size-with_strides : (f : ℕ → ℕ) (i : ℕ) (s : Shape) → size (with_strides f i s) ≡ size s
-  size-with_strides f i Void = refl
-  size-with_strides f i (Number k) = refl
-  size-with_strides f i (Array n s) = ap (λ k. k + 1) (size-with_strides f (i + 1) s)
-  size-with_strides f i (Cluster ss) = ap (λ k. k + 1) (sizes-with_strides f (i + 1) ss)
-  size-with_strides f i Mutex = refl
-
-  sizes-with_strides : (f : ℕ → ℕ) (i : ℕ) (ss : Members) → sizes (all_with_strides f i ss) ≡ sizes ss
-  sizes-with_strides f i no_members = refl
-  sizes-with_strides f i (member s ss) =
-      ap₂ (λ (m n : ℕ). m + n) (size-with_strides f i s) (sizes-with_strides f (i + size s) ss)
 
 -- so many entries that spell no shape outside
 abbrev hidden : ℕ → List (Option Shape) → List (Option Shape)

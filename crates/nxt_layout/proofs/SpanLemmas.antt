@@ -1,13 +1,13 @@
 -- Spans that follow one another share no byte, and the first pair that shares one is found.
 use Rattle.std.proofs.Common.{◌≡◌, ℕ, ◌+◌, ◌≤◌, ◌<◌, Bool, true, false, cond, ◌==◌, nat_lt, nat_le, IsTrue, List, [], ◌∷◌, find, option_map, is_some, Option, Some, None, IsPermutation, ◌⊎◌, inl, inr, ⊎_elim, refl, sym, ap, ◌∙◌, subst, arith, true≢false, eq-eqb, ne_eqb, eqb-true, leb-true, le-ltb}
 use Rattle.std.proofs.lemmas.Bool.{cases_lt, and_parts, and_left, and_right}
-use Rattle.std.proofs.lemmas.Bool.Decides.{nat_tests}
 use Rattle.std.proofs.lemmas.List.Sorted.{IsPermutation-sym}
 use Rattle.std.proofs.ByRecursion.{all_shuffled}
 use Rattle.nxt_types.specs.Refusals.{comes_first}
 use Rattle.nxt_layout.specs.LeafPasses.{pair_or}
 use Rattle.nxt_layout.specs.declared.spans.Span.{Span}
 use Rattle.nxt_layout.specs.RowPasses.{spans_share, first_span, first_spans, follow, SpansRise}
+use Rattle.nxt_layout.proofs.Pairs.{comes}
 use Rattle.nxt_layout.proofs.Each.{Each, each_then, each_both}
 
 -- ---- spans in line
@@ -290,13 +290,6 @@ spans_least (s ∷ ss) i m n h x = by (cases_lt s.row m) (spans_least ss (s.row 
               order = found w f c;
             }
 
-comes : (w : ℕ × ℕ) (m n : ℕ) → IsFirst w m n → IsTrue (comes_first (w.0 ∷ w.1 ∷ []) (m ∷ n ∷ []))
-comes w m n h =
-    ⊎_elim
-    (λ (p : w.0 < m). grind (arith, nat_tests))
-    (λ p. let x : w.0 ≡ m = p.0 in let y : w.1 ≤ n = p.1 in grind (arith, nat_tests))
-    h
-
 -- what is found is the least pair that shares a byte
 pub first_spans_pass : (ss : List Span) (w : ℕ × ℕ) → SpansRise 0 ss → first_spans ss ≡ Some w → SpansShare ss w.0 w.1
 first_spans_pass ss w h e = spans_pass ss 0 w h e
@@ -311,7 +304,7 @@ first_spans_least ss w m n h e x =
     let least = spans_least ss 0 m n h x in
     let some : Some least.pair ≡ Some w = sym least.is_pair ∙ e in
     let same : least.pair ≡ w = cc in
-    comes w m n (subst (λ p. IsFirst p m n) same least.order)
+    comes w.0 w.1 m n (subst (λ p. IsFirst p m n) same least.order)
 
 pub no_spans_pass : (ss : List Span) (m n : ℕ) → SpansRise 0 ss → first_spans ss ≡ None → SpansShare ss m n → ⊥
 no_spans_pass ss m n h e x =

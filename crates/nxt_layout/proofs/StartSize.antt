@@ -1,9 +1,7 @@
 -- How many bytes the variables take at the start, by the rows that are reached.
-use Rattle.std.proofs.Common.{◌≡◌, ℕ, zero, suc, ◌+◌, ◌*◌, ◌<◌, ◌≤◌, Bool, true, false, cond, ◌&&◌, ◌||◌, not, ◌==◌, nat_lt, List, [], ◌∷◌, ◌++◌, map, filter, flat_map, find, max, sum_by, length, Option, Some, None, inl, inr, if◌then◌else◌, refl, sym, ap, ap₂, ◌∙◌, subst, arith, length-append, append-nil, lt-ltb, ltb-true, ltb-false, eq-eqb, ne_eqb}
-use Rattle.std.specs.List.{list_all, list_any}
-use Rattle.std.proofs.lemmas.Bool.{and_parts, cases_eq, cases_order, eqb-true}
-use Rattle.std.proofs.lemmas.List.Concat.{flat_map-append}
-use Rattle.std.proofs.lemmas.List.Elements.{filter-append}
+use Rattle.std.proofs.Common.{◌≡◌, ℕ, zero, suc, ◌+◌, ◌*◌, ◌<◌, ◌≤◌, Bool, true, false, cond, ◌&&◌, ◌||◌, not, ◌==◌, nat_lt, List, [], ◌∷◌, flat_map, find, max, sum_by, length, Option, Some, None, inl, inr, if◌then◌else◌, refl, sym, ap, ap₂, ◌∙◌, subst, arith, length-append, append-nil, lt-ltb, ltb-true, ltb-false}
+use Rattle.std.specs.List.{list_any}
+use Rattle.std.proofs.lemmas.Bool.{and_parts, cases_order, eqb-true}
 use Rattle.std.proofs.lemmas.List.Sums.{sum_by-cons}
 use Rattle.std.proofs.lemmas.List.{length-map}
 use Rattle.nxt_types.specs.Shapes.{Shape, Void, Number, Array, Cluster, Mutex, Members, no_members, member, has_list, some_list}
@@ -11,69 +9,26 @@ use Rattle.nxt_types.specs.Names.{size}
 use Rattle.nxt_rxe.specs.declared.parts.Parts.{Parts}
 use Rattle.nxt_model.specs.Values.{Value, values, group_of, elements, lists_in, lists_among as lists_within}
 use Rattle.nxt_model.specs.Footprint.{pool_size, round4, list_bytes, member_bytes}
-use Rattle.nxt_model.specs.Reading.{Memory, HeldList, held, EachReads, RowReads, Reads, MembersRead, ReadsAs, row_count, u16_in, leaf_place}
+use Rattle.nxt_model.specs.Reading.{Memory, HeldList, EachReads, RowReads, Reads, MembersRead, ReadsAs, row_count, u16_in, leaf_place}
 use Rattle.nxt_layout.specs.declared.fault.LayoutFault.TheVariants.{Place, PoolPassed}
 use Rattle.nxt_layout.specs.Leaves.{Leaf, AreShapes, leaves, leaf_of}
 use Rattle.nxt_layout.specs.Rows.{Ground, row, has_elements, names_row, is_strided, is_array, elements_of, element_places, numbers_of, reached_through, reached, arrays_of, is_full}
 use Rattle.nxt_layout.specs.Start.{ground, stride_of, stride_of_row, stride_through, with_strides, all_with_strides, file_rows, start_footprint, StartsAs}
 use Rattle.nxt_layout.specs.RowPasses.{row_bytes, sum_below}
 use Rattle.nxt_layout.specs.LayoutRules.{Broken, PassesPool}
-use Rattle.nxt_layout.proofs.Each.{Each, each_from, each_then, each_both, each_apart, each_flat, each_filter, bit, tally}
-use Rattle.nxt_layout.proofs.Found.{number_at, row_lists, values_among, lists_at, lists_among, length-places, names_it}
-use Rattle.nxt_layout.proofs.Fair.{leaf_in, leaves_in, leaves_among, HasFairRows, IsFair, AreFair}
-use Rattle.nxt_layout.proofs.FairReads.{all_read}
-use Rattle.nxt_layout.proofs.RowCounts.{is_it, arrays_among}
+use Rattle.nxt_layout.proofs.Each.{Each, each_from, each_then, each_both, each_flat, each_filter, each_passes}
+use Rattle.nxt_layout.proofs.Totals.{total, total_is, total-append, total_one, total_flat, total_same, total_every, is_it}
+use Rattle.nxt_layout.proofs.SumsBelow.{sums_same, once_below}
+use Rattle.nxt_layout.proofs.Found.{number_at, values_among, lists_among, length-places}
+use Rattle.nxt_layout.proofs.Fair.{leaves_among, HasFairRows, IsFair, AreFair}
+use Rattle.nxt_layout.proofs.FairReads.{when_full, all_read}
+use Rattle.nxt_layout.proofs.RowCounts.{held_of, weight_of, arrays_among, members_total, named_total}
+use Rattle.nxt_layout.proofs.Leading.{like_one}
 use Rattle.nxt_layout.proofs.LeafOrder.{leaves_are, leaves_found}
 use Rattle.nxt_layout.proofs.StrideFree.{size_of_table, memory_with_strides}
 use Rattle.nxt_layout.proofs.RulesKept.{AreKept, KeepsRows, are_kept, reached_once, fair_leaves}
 use Rattle.nxt_layout.proofs.Starts.{reads_from}
 use Rattle.nxt_layout.proofs.StartLaw.{one_start}
-
--- ---- sums
-
-abbrev pub total : {X : Type 0} → (X → ℕ) → List X → ℕ
-total w [] = 0
-total w (x ∷ xs) = w x + total w xs
-
-pub total_is : {X : Type 0} (w : X → ℕ) (xs : List X) → sum_by w xs ≡ total w xs
-total_is w [] = refl
-total_is w (x ∷ xs) = sum_by-cons w x xs ∙ ap (λ n. w x + n) (total_is w xs)
-
-total-append : {X : Type 0} (w : X → ℕ) (xs ys : List X) → total w (xs ++ ys) ≡ total w xs + total w ys
-total-append w [] ys = omega arith
-total-append w (x ∷ xs) ys = omega (arith, total-append w xs ys)
-
-total_two : {X Y : Type 0} (w : Y → ℕ) (f h : X → List Y) (xs : List X) → total w (flat_map (λ x. f x ++ h x) xs) ≡ total w (flat_map f xs) + total w (flat_map h xs)
-total_two w f h [] = refl
-total_two w f h (x ∷ xs) =
-    omega (
-      arith,
-      total-append w (f x ++ h x) (flat_map (λ x. f x ++ h x) xs),
-      total-append w (f x) (h x),
-      total-append w (f x) (flat_map f xs),
-      total-append w (h x) (flat_map h xs),
-      total_two w f h xs,
-    )
-
-total_none : {X Y : Type 0} (w : Y → ℕ) (xs : List X) → total w (flat_map (λ x. []) xs) ≡ 0
-total_none w [] = refl
-total_none w (x ∷ xs) = total_none w xs
-
-total_one : {X : Type 0} (xs : List X) → total (λ x. 1) xs ≡ length xs
-total_one [] = refl
-total_one (x ∷ xs) = omega (arith, total_one xs)
-
-total_flat : {X Y : Type 0} (w : Y → ℕ) (f : X → List Y) (xs : List X) → total w (flat_map f xs) ≡ total (λ x. total w (f x)) xs
-total_flat w f [] = refl
-total_flat w f (x ∷ xs) = omega (arith, total-append w (f x) (flat_map f xs), total_flat w f xs)
-
-total_same : {X : Type 0} (v w : X → ℕ) (xs : List X) → Each (λ x. v x ≡ w x) xs → total v xs ≡ total w xs
-total_same v w [] e = refl
-total_same v w (x ∷ xs) e = omega (arith, e.0, total_same v w xs e.1)
-
-total_every : {X : Type 0} (v w : X → ℕ) → ((x : X) → v x ≡ w x) → (xs : List X) → total v xs ≡ total w xs
-total_every v w h [] = refl
-total_every v w h (x ∷ xs) = omega (arith, h x, total_every v w h xs)
 
 -- ---- what reads as values
 
@@ -169,103 +124,7 @@ lists_counted m ss vars ls h = ap lists_in h.values ∙ members_counted m 0 ss 0
 pub lists_sized : (m : Memory) (ss : Members) (vars : Value) (ls : List HeldList) → ReadsAs m ss vars ls → list_bytes (Cluster ss) vars ≡ sum_by bytes_held ls
 lists_sized m ss vars ls h = members_sized m 0 ss 0 (elements vars) ls h.variables ∙ sym (total_is bytes_held ls)
 
--- ---- the lists that are found
-
--- the list that a number names
-abbrev pub held_of : Ground → ℕ → ℕ → HeldList
-held_of g stride zero = held 0 stride 0
-held_of g stride (suc r) = held (suc r) stride (row g (suc r)).count
-
-flat_map-map : {X Y Z : Type 0} (f : Y → List Z) (h : X → Y) (xs : List X) → flat_map f (map h xs) ≡ flat_map (λ x. f (h x)) xs
-flat_map-map f h [] = refl
-flat_map-map f h (x ∷ xs) = ap (λ zs. f (h x) ++ zs) (flat_map-map f h xs)
-
-abbrev inner : Ground → (ℕ → List HeldList) → List ℕ → List HeldList
-inner g lists rows = flat_map lists (flat_map (elements_of g) rows)
-
-regroup : (one all here rest named others both : ℕ) → all ≡ here + rest → rest ≡ named + others → both ≡ here + others → one + all ≡ (one + named) + both
-regroup one all here rest named others both a b c = omega arith
-
-numbers_total : (w : HeldList → ℕ) (g : Ground) (stride : ℕ) (lists : ℕ → List HeldList) (ns : List ℕ) → Each (λ n. n < row_count g.memory) ns → total w (flat_map (row_lists g stride lists) ns) ≡ total (λ r. w (held_of g stride r)) ns + total w (inner g lists (filter (names_row g) ns))
-numbers_total w g stride lists [] h = refl
-numbers_total w g stride lists (zero ∷ ns) h = omega (arith, numbers_total w g stride lists ns h.1)
-numbers_total w g stride lists (suc q ∷ ns) h =
-    let kept : filter (names_row g) (suc q ∷ ns) ≡ suc q ∷ filter (names_row g) ns =
-    ap (λ b. cond b (suc q ∷ filter (names_row g) ns) (filter (names_row g) ns)) (names_it g q h.0) in
-    let rest = numbers_total w g stride lists ns h.1 in
-    let here = elements_of g (suc q) in
-    let others = flat_map (elements_of g) (filter (names_row g) ns) in
-    subst
-    (λ rows. total w (flat_map (row_lists g stride lists) (suc q ∷ ns)) ≡ total (λ r. w (held_of g stride r)) (suc q ∷ ns) + total w (inner g lists rows))
-    (sym kept)
-    (regroup
-    (w (held_of g stride (suc q)))
-    (total w (flat_map lists here ++ flat_map (row_lists g stride lists) ns))
-    (total w (flat_map lists here))
-    (total w (flat_map (row_lists g stride lists) ns))
-    (total (λ r. w (held_of g stride r)) ns)
-    (total w (flat_map lists others))
-    (total w (flat_map lists (here ++ others)))
-    (total-append w (flat_map lists here) (flat_map (row_lists g stride lists) ns))
-    rest
-    (ap (total w) (flat_map-append lists here others) ∙ total-append w (flat_map lists here) (flat_map lists others)))
-
--- the weight of the lists that an array's entry names
-abbrev pub weight_of : (HeldList → ℕ) → Ground → (ℕ → ℕ) → Leaf → ℕ
-weight_of w g f l = total (λ r. w (held_of g (f l.entry) r)) (numbers_of g l)
-
-array_step : (all by_number here deep found others : ℕ) → all ≡ by_number → by_number ≡ here + deep → found ≡ deep → found ≡ others → all ≡ here + others
-array_step all by_number here deep found others a b c d = omega arith
-
-member_step : (all a b c d both : ℕ) → all ≡ a + b → a ≡ c → b ≡ d → both ≡ c + d → all ≡ both
-member_step all a b c d both h k l m = omega arith
-
-mutual
-  pub shape_total : (w : HeldList → ℕ) (g : Ground) (f : ℕ → ℕ) (s : Shape) (i : ℕ) (arrays : List ℕ) → AreFair g (leaves_in g.memory.entries s i arrays) → total w (flat_map (lists_at g f s i) (element_places g arrays)) ≡ total (weight_of w g f) (arrays_among (leaves_in g.memory.entries s i arrays))
-  shape_total w g f Void i arrays fair = total_none w (element_places g arrays)
-  shape_total w g f (Number k) i arrays fair = total_none w (element_places g arrays)
-  shape_total w g f (Array n s) i arrays fair =
-      let l = leaf_in g.memory.entries (Array n s) i arrays in
-      let rows : HasFairRows g l = fair.0.rows refl in
-      let lists = lists_at g f s (i + 1) in
-      array_step
-      (total w (flat_map (lists_at g f (Array n s) i) (element_places g arrays)))
-      (total w (flat_map (row_lists g (f i) lists) (numbers_of g l)))
-      (weight_of w g f l)
-      (total w (inner g lists (reached_through g l)))
-      (total w (flat_map lists (element_places g (i ∷ arrays))))
-      (total (weight_of w g f) (arrays_among (leaves_in g.memory.entries s (i + 1) (i ∷ arrays))))
-      (ap (total w) (sym (flat_map-map (row_lists g (f i) lists) (number_at g i) (element_places g arrays))))
-      (numbers_total w g (f i) lists (numbers_of g l) rows.named)
-      (ap (λ ps. total w (flat_map lists ps)) (all_read g l rows))
-      (shape_total w g f s (i + 1) (i ∷ arrays) fair.1)
-  shape_total w g f (Cluster ss) i arrays fair = members_total w g f ss (i + 1) arrays fair
-  shape_total w g f Mutex i arrays fair = total_none w (element_places g arrays)
-
-  pub members_total : (w : HeldList → ℕ) (g : Ground) (f : ℕ → ℕ) (ss : Members) (i : ℕ) (arrays : List ℕ) → AreFair g (leaves_among g.memory.entries ss i arrays) → total w (flat_map (lists_among g f ss i) (element_places g arrays)) ≡ total (weight_of w g f) (arrays_among (leaves_among g.memory.entries ss i arrays))
-  members_total w g f no_members i arrays fair = total_none w (element_places g arrays)
-  members_total w g f (member s ss) i arrays fair =
-      let here = leaves_in g.memory.entries s i arrays in
-      let rest = leaves_among g.memory.entries ss (i + size s) arrays in
-      let two = each_apart (IsFair g) here rest fair in
-      member_step
-      _
-      _
-      _
-      _
-      _
-      _
-      (total_two w (lists_at g f s i) (lists_among g f ss (i + size s)) (element_places g arrays))
-      (shape_total w g f s i arrays two.0)
-      (members_total w g f ss (i + size s) arrays two.1)
-      (ap (total (weight_of w g f)) (filter-append (λ l. is_array l.shape) here rest)
-      ∙ total-append (weight_of w g f) (arrays_among here) (arrays_among rest))
-
 -- ---- strides
-
-each_passes : {X : Type 0} (test : X → Bool) (xs : List X) → list_all test xs ≡ true → Each (λ x. test x ≡ true) xs
-each_passes test [] e = tt
-each_passes test (x ∷ xs) e = let two = and_parts (test x) (list_all test xs) e in (two.0, each_passes test xs two.1)
 
 found_one : {X : Type 0} (P : X → Type 0) (test : X → Bool) (x y : X) (o : Option X) (b : Bool) → test x ≡ b → P x → (o ≡ Some y → P y × (test y ≡ true)) → cond b (Some x) o ≡ Some y → P y × (test y ≡ true)
 found_one P test x y o true t h more e = let same : x ≡ y = cc in subst (λ z. P z × (test z ≡ true)) same (h, t)
@@ -284,15 +143,6 @@ none_found : {X : Type 0} (test : X → Bool) (xs : List X) → find test xs ≡
 none_found test [] e = tt
 none_found test (x ∷ xs) e = let two = none_here test x (find test xs) (test x) refl e in (two.0, none_found test xs two.1)
 
-when_full : (has a b : Bool) → has ≡ true → (not has || (a && b)) ≡ true → b ≡ true
-when_full true a b e t = (and_parts a b t).1
-when_full false a b e t = let f : ⊥ = cc in absurd f
-
-when_less : (less has same : Bool) → less ≡ true → has ≡ true → (not (less && has) || same) ≡ true → same ≡ true
-when_less true true same e h t = t
-when_less true false same e h t = let f : ⊥ = cc in absurd f
-when_less false has same e h t = let f : ⊥ = cc in absurd f
-
 -- the stride of a row with elements is that of each lesser one
 abbrev SameBelow : Ground → List ℕ → ℕ → Type 0
 SameBelow g rows r = Each (λ q. has_elements g q ≡ true → q < r → (row g q).stride ≡ (row g r).stride) rows
@@ -306,12 +156,12 @@ same_below g a rows r strided full =
     eqb-true
     (row g q).stride
     (row g r).stride
-    (when_less (nat_lt q r) (has_elements g q) ((row g q).stride == (row g r).stride) (lt-ltb q r less) has h))
+    (like_one (nat_lt q r) (has_elements g q) ((row g q).stride == (row g r).stride) (lt-ltb q r less) has h))
     rows
     (each_passes
     (λ q. not (nat_lt q r && has_elements g q) || ((row g q).stride == (row g r).stride))
     rows
-    (when_full (has_elements g r) _ _ full strided))
+    (when_full (has_elements g r) _ _ full strided).1)
 
 -- rows that are reached through one entry have one stride
 one_stride : (g : Ground) (a : ℕ) (rows : List ℕ) (o : Option ℕ) → find (has_elements g) rows ≡ o → Each (λ r. is_strided g a rows r ≡ true) rows → Each (λ r. has_elements g r ≡ true → (row g r).stride ≡ stride_of_row g a o) rows
@@ -360,15 +210,6 @@ no_product n = omega arith
 no_bytes : (n : ℕ) → round4 (0 * n) ≡ 0
 no_bytes n = ap round4 (no_product n)
 
-named_total : (g : Ground) (stride : ℕ) (ns : List ℕ) → Each (λ n. n < row_count g.memory) ns → total (λ r. bytes_held (held_of g stride r)) ns ≡ total (λ r. round4 ((row g r).count * stride)) (filter (names_row g) ns)
-named_total g stride [] h = refl
-named_total g stride (zero ∷ ns) h = omega (arith, no_bytes stride, named_total g stride ns h.1)
-named_total g stride (suc q ∷ ns) h =
-    ap (λ n. round4 ((row g (suc q)).count * stride) + n) (named_total g stride ns h.1)
-    ∙ ap
-    (λ b. total (λ r. round4 ((row g r).count * stride)) (cond b (suc q ∷ filter (names_row g) ns) (filter (names_row g) ns)))
-    (sym (names_it g q h.0))
-
 no_count : (g : Ground) (r : ℕ) → has_elements g r ≡ false → (row g r).count ≡ 0
 no_count g r e = let least : (row g r).count ≤ 0 = ltb-false 0 (row g r).count e in omega (arith, least)
 
@@ -384,7 +225,7 @@ leaf_total : (g : Ground) (l : Leaf) → leaf_of g.leaves l.entry ≡ Some l →
 leaf_total g l found rows =
     let stride = stride_through g (Some l) in
     ap (λ o. total (λ r. bytes_held (held_of g (stride_through g o) r)) (numbers_of g l)) found
-    ∙ named_total g stride (numbers_of g l) rows.named
+    ∙ named_total bytes_held g stride (numbers_of g l) (no_bytes stride) rows.named
     ∙ total_same
     (λ r. round4 ((row g r).count * stride))
     (row_bytes g)
@@ -571,77 +412,6 @@ places_by_row g l rows =
 
 -- ---- and by row of the table
 
-pub below_same : (v w : ℕ → ℕ) → ((r : ℕ) → v r ≡ w r) → (n : ℕ) → sum_below v n ≡ sum_below w n
-below_same v w h zero = refl
-below_same v w h (suc n) = omega (arith, below_same v w h n, h n)
-
-pub below_two : (v w : ℕ → ℕ) (n : ℕ) → sum_below (λ r. v r + w r) n ≡ sum_below v n + sum_below w n
-below_two v w zero = refl
-below_two v w (suc n) = omega (arith, below_two v w n)
-
-pub below_none : (v : ℕ → ℕ) (n : ℕ) → ((r : ℕ) → r < n → v r ≡ 0) → sum_below v n ≡ 0
-below_none v zero h = refl
-below_none v (suc n) h = omega (arith, below_none v n (λ r less. h r (omega (arith, less))), h n (omega arith))
-
-abbrev pub only : (ℕ → ℕ) → ℕ → ℕ → ℕ
-only w x r = cond (x == r) (w r) 0
-
-below_other : (x n : ℕ) → x < suc n → (x ≡ n → ⊥) → x < n
-below_other x n h other =
-    elim (cases_order x n) [
-      | inl e ↦ absurd (other e)
-      | inr w ↦ elim w [
-        | inl less ↦ less
-        | inr more ↦ let f : ⊥ = omega (arith, h, more) in absurd f
-      ]
-    ]
-
-pub one_below : (w : ℕ → ℕ) (x n : ℕ) → x < n → sum_below (only w x) n ≡ w x
-one_below w x zero h = let f : ⊥ = omega (arith, h) in absurd f
-one_below w x (suc n) h =
-    elim (cases_eq x n) [
-      | inl e ↦ omega (
-        arith,
-        below_none (only w x) n (λ r less. ap (λ b. cond b (w r) 0) (ne_eqb x r (λ same. omega (arith, e, same, less)))),
-        ap (λ b. cond b (w n) 0) (eq-eqb x n e),
-        ap w e,
-      )
-      | inr other ↦ omega (
-        arith,
-        one_below w x n (below_other x n h other),
-        ap (λ b. cond b (w n) 0) (ne_eqb x n other),
-      )
-    ]
-
-counted_more : (b more : Bool) (n : ℕ) → (b || more) ≡ true → (more ≡ true → 0 < n) → 0 < bit b + n
-counted_more true more n e h = omega arith
-counted_more false more n e h = omega (arith, h e)
-
-any_counted : {X : Type 0} (test : X → Bool) (xs : List X) → list_any test xs ≡ true → 0 < tally test xs
-any_counted test [] e = let f : ⊥ = cc in absurd f
-any_counted test (x ∷ xs) e = counted_more (test x) (list_any test xs) (tally test xs) e (any_counted test xs)
-
-parted : (a b : Bool) (k n : ℕ) → bit a + n ≤ 1 → (b ≡ true → 0 < n) → cond (a || b) k 0 ≡ cond a k 0 + cond b k 0
-parted true true k n h some = let f : ⊥ = omega (arith, h, some refl) in absurd f
-parted true false k n h some = omega arith
-parted false true k n h some = omega arith
-parted false false k n h some = refl
-
--- of elements that stand once each
-once_below : (w : ℕ → ℕ) (n : ℕ) (xs : List ℕ) → ((r : ℕ) → tally (is_it r) xs ≤ 1) → Each (λ x. x < n) xs → total w xs ≡ sum_below (λ r. cond (list_any (is_it r) xs) (w r) 0) n
-once_below w n [] once less = sym (below_none (λ r. 0) n (λ r h. refl))
-once_below w n (x ∷ xs) once less =
-    let rest = once_below w n xs (λ r. omega (arith, once r)) less.1 in
-    let others = λ (r : ℕ). cond (list_any (is_it r) xs) (w r) 0 in
-    let both =
-    below_same
-    (λ r. cond (list_any (is_it r) (x ∷ xs)) (w r) 0)
-    (λ r. only w x r + others r)
-    (λ r. parted (x == r) (list_any (is_it r) xs) (w r) (tally (is_it r) xs) (once r) (any_counted (is_it r) xs))
-    n
-    in
-    omega (arith, both, below_two (only w x) others n, one_below w x n less.0, rest)
-
 pub reached_below : (g : Ground) → Each (λ r. r < row_count g.memory) (reached g)
 reached_below g =
     each_flat
@@ -672,11 +442,11 @@ pub bytes_by_row : (g : Ground) → AreKept g → sum_by (row_bytes g) (reached 
 bytes_by_row g kept =
     total_is (row_bytes g) (reached g)
     ∙ once_below (row_bytes g) (row_count g.memory) (reached g) (reached_once g kept) (reached_below g)
-    ∙ below_same
+    ∙ sums_same
     (λ r. cond (list_any (is_it r) (reached g)) (row_bytes g r) 0)
     (λ r. if is_full g r then row_bytes g r else 0)
-    (λ r. full_bytes g r (list_any (is_it r) (reached g)) (has_elements g r) refl)
     (row_count g.memory)
+    (λ r h. full_bytes g r (list_any (is_it r) (reached g)) (has_elements g r) refl)
 
 -- ---- the whole by array and by row
 

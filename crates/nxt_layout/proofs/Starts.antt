@@ -11,11 +11,12 @@ use Rattle.nxt_layout.specs.Dataspace.{memory}
 use Rattle.nxt_layout.specs.Rows.{reached, reached_through}
 use Rattle.nxt_layout.specs.Start.{ground, stride_of, all_with_strides, StartsAs}
 use Rattle.nxt_layout.specs.LayoutRules.{Broken}
-use Rattle.nxt_layout.proofs.Each.{Each, tally}
+use Rattle.nxt_layout.proofs.Each.{Each}
+use Rattle.nxt_layout.proofs.Totals.{tally, is_it}
 use Rattle.nxt_layout.proofs.Found.{values_among, lists_among}
 use Rattle.nxt_layout.proofs.Fair.{leaves_among, IsFair, AreFair, HasRoom}
 use Rattle.nxt_layout.proofs.FairReads.{members_read}
-use Rattle.nxt_layout.proofs.RowCounts.{is_row, is_it, arrays_among, members_tally}
+use Rattle.nxt_layout.proofs.RowCounts.{is_row, arrays_among, members_tally}
 use Rattle.nxt_layout.proofs.OwnRows.{all_pairs, own_pairs, members_proper, full_lists}
 use Rattle.nxt_layout.proofs.ApartRows.{blocks_apart}
 use Rattle.nxt_layout.proofs.LeafOrder.{leaves_are}

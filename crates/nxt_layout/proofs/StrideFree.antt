@@ -10,6 +10,8 @@ use Rattle.nxt_model.specs.Reading.{Memory}
 use Rattle.nxt_layout.specs.Leaves.{Site, site, sites, sites_in, sites_among, Leaf, leaf_at, leaves, width, bytes_of_leaf, is_mutex}
 use Rattle.nxt_layout.specs.Dataspace.{default_place, default_end, put_at, set_leaves, static_bytes, dynamic_bytes, dataspace, memory}
 use Rattle.nxt_layout.specs.Start.{with_strides, all_with_strides}
+use Rattle.nxt_layout.proofs.LeafLemmas.{leaf_here}
+use Rattle.nxt_layout.proofs.Whole.{length-spellings}
 
 -- ---- shapes
 
@@ -68,17 +70,17 @@ spells_with_strides table f ss h =
 -- ---- as many entries
 
 mutual
-  length-spelling : (s : Shape) → length (spelling s) ≡ size s
-  length-spelling Void = refl
-  length-spelling (Number k) = refl
-  length-spelling (Array n s) = omega (arith, length-spelling s)
-  length-spelling (Cluster ss) = omega (arith, length-spellings ss)
-  length-spelling Mutex = refl
+  pub size-with_strides : (f : ℕ → ℕ) (i : ℕ) (s : Shape) → size (with_strides f i s) ≡ size s
+  size-with_strides f i Void = refl
+  size-with_strides f i (Number k) = refl
+  size-with_strides f i (Array n s) = ap (λ n. n + 1) (size-with_strides f (i + 1) s)
+  size-with_strides f i (Cluster ss) = ap (λ n. n + 1) (sizes-with_strides f (i + 1) ss)
+  size-with_strides f i Mutex = refl
 
-  length-spellings : (ss : Members) → length (spellings ss) ≡ sizes ss
-  length-spellings no_members = refl
-  length-spellings (member s ss) =
-      omega (arith, length-append (spelling s) (spellings ss), length-spelling s, length-spellings ss)
+  pub sizes-with_strides : (f : ℕ → ℕ) (i : ℕ) (ss : Members) → sizes (all_with_strides f i ss) ≡ sizes ss
+  sizes-with_strides f i no_members = refl
+  sizes-with_strides f i (member s ss) =
+      rw (size-with_strides f i s, sizes-with_strides f (i + size s) ss)
 
 pub size_of_table : (table : List TocEntry) (ss : Members) → SpellsAll table ss → length table ≡ sizes ss
 size_of_table table ss h = sym (length-map table outline) ∙ ap length h.entries ∙ length-spellings ss
@@ -140,9 +142,6 @@ mutex-bare (Number k) = refl
 mutex-bare (Array n s) = refl
 mutex-bare (Cluster ss) = refl
 mutex-bare Mutex = refl
-
-abbrev leaf_here : ℕ × (TocEntry × Site) → List Leaf
-leaf_here x = if is_leaf x.1.1.shape then leaf_at x.0 x.1.0 x.1.1 ∷ [] else []
 
 one_bare : (b : Bool) (l : Leaf) (ls : List Leaf) → map bare_leaf ((if b then l ∷ [] else []) ++ ls) ≡ (if b then bare_leaf l ∷ [] else []) ++ map bare_leaf ls
 one_bare true l ls = refl

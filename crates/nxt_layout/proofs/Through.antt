@@ -1,6 +1,8 @@
 -- What is found through one array.
-use Rattle.std.proofs.Common.{◌≡◌, ℕ, suc, ◌+◌, ◌-◌, ◌<◌, ◌≤◌, ◌^◌, Bool, true, false, if◌then◌else◌, ◌||◌, List, [], ◌∷◌, ◌++◌, map, filter, flat_map, fold, length, drop, drop-cons, get_or, append_assoc, Option, refl, sym, ap, ◌∙◌, arith}
+use Rattle.std.proofs.Common.{◌≡◌, ℕ, ◌+◌, ◌-◌, ◌<◌, ◌≤◌, ◌^◌, Bool, true, false, if◌then◌else◌, ◌||◌, List, [], ◌∷◌, ◌++◌, map, filter, flat_map, fold, length, drop, get_or, append_assoc, Option, refl, sym, ap, ◌∙◌, arith, subst}
 use Rattle.std.specs.List.{list_any}
+use Rattle.std.proofs.lemmas.List.{drop_more}
+use Rattle.std.proofs.lemmas.List.Sums.{length-filter, count_by-le-length}
 use Rattle.nxt_model.specs.Reading.{row_count}
 use Rattle.nxt_layout.specs.declared.leaves.Leaf.{Leaf}
 use Rattle.nxt_layout.specs.declared.names.Names.{Names}
@@ -63,9 +65,7 @@ least_more xs ys found next e =
 -- ---- lists of which a part is done
 
 pub drop_next : {X : Type 0} (xs : List X) (k : ℕ) (x : X) → k < length xs → x ≡ get_or xs k x → drop k xs ≡ x ∷ drop (k + 1) xs
-drop_next xs k x h e =
-    let next : suc k ≡ k + 1 = omega arith in
-    drop-cons xs k x h ∙ ap (λ y. y ∷ drop (suc k) xs) (sym e) ∙ ap (λ n. x ∷ drop n xs) next
+drop_next xs k x h e = drop_more xs k x h ∙ ap (λ y. y ∷ drop (k + 1) xs) (sym e)
 
 -- ---- spans, row by row
 
@@ -83,9 +83,4 @@ span_less g full r n ss h e =
 -- ---- lists of which a part is kept
 
 pub filter_short : (p : ℕ → Bool) (xs : List ℕ) → length (filter p xs) ≤ length xs
-filter_short p [] = omega arith
-filter_short p (x ∷ xs) = by (p x) (filter_short p xs)
-  where
-    by : (b : Bool) → length (filter p xs) ≤ length xs → length (if b then x ∷ filter p xs else filter p xs) ≤ length (x ∷ xs)
-    by true h = omega (arith, h)
-    by false h = omega (arith, h)
+filter_short p xs = subst (λ n. n ≤ length xs) (sym (length-filter p xs)) (count_by-le-length p xs)

@@ -4,10 +4,10 @@ use Rattle.std.specs.List.{list_all, list_any}
 use Rattle.std.proofs.lemmas.Bool.{and_parts, cases_lt, eqb-true, le-ltb}
 use Rattle.nxt_model.specs.Reading.{row_count}
 use Rattle.nxt_layout.specs.Rows.{Ground, names_row}
-use Rattle.nxt_layout.specs.RowPasses.{times, keep_twice, with_number, rows_of, sum_below}
-use Rattle.nxt_layout.proofs.Each.{Each, each_join, each_then, bit, tally, tally_is, tally-append}
-use Rattle.nxt_layout.proofs.RowCounts.{is_it}
-use Rattle.nxt_layout.proofs.StartSize.{total, only, below_none, below_two, one_below}
+use Rattle.nxt_layout.specs.RowPasses.{times, keep_twice, with_number, rows_of}
+use Rattle.nxt_layout.proofs.Each.{Each, each_join, each_then}
+use Rattle.nxt_layout.proofs.Totals.{total, total-map, total_flat, bit, tally, is_it, tally_is, tally-append, any_is}
+use Rattle.nxt_layout.proofs.SumsBelow.{below_twice, counted_below}
 
 -- ---- counts, cut at two
 
@@ -33,13 +33,11 @@ alike-append xs ys us vs h k =
     ∙ cap_both (tally p xs) (tally p us) (tally p ys) (tally p vs) (h p) (k p)
     ∙ sym (ap cap (tally-append p ys vs))
 
-tally-map : (p : ℕ → Bool) (f : ℕ → ℕ) (xs : List ℕ) → tally p (map f xs) ≡ tally (λ x. p (f x)) xs
-tally-map p f [] = refl
-tally-map p f (x ∷ xs) = ap (λ n. bit (p (f x)) + n) (tally-map p f xs)
-
 pub alike-map : (f : ℕ → ℕ) (xs ys : List ℕ) → AreAlike xs ys → AreAlike (map f xs) (map f ys)
 alike-map f xs ys h =
-    λ p. ap cap (tally-map p f xs) ∙ h (λ x. p (f x)) ∙ sym (ap cap (tally-map p f ys))
+    λ p.
+    let w = λ (x : ℕ). bit (p x) in
+    ap cap (total-map w f xs) ∙ h (λ x. p (f x)) ∙ sym (ap cap (total-map w f ys))
 
 kept_tally : (p : ℕ → Bool) (x : ℕ) (xs : List ℕ) (b : Bool) → tally p (cond b (x ∷ xs) xs) ≡ bit (b && p x) + tally p xs
 kept_tally p x xs true = refl
@@ -53,11 +51,6 @@ tally-filter p q (x ∷ xs) =
 pub alike-filter : (q : ℕ → Bool) (xs ys : List ℕ) → AreAlike xs ys → AreAlike (filter q xs) (filter q ys)
 alike-filter q xs ys h =
     λ p. ap cap (tally-filter p q xs) ∙ h (λ x. q x && p x) ∙ sym (ap cap (tally-filter p q ys))
-
-tally-flat_map : (p : ℕ → Bool) (f : ℕ → List ℕ) (xs : List ℕ) → tally p (flat_map f xs) ≡ total (λ x. tally p (f x)) xs
-tally-flat_map p f [] = refl
-tally-flat_map p f (x ∷ xs) =
-    tally-append p (f x) (flat_map f xs) ∙ ap (λ n. tally p (f x) + n) (tally-flat_map p f xs)
 
 one_capped : (n : ℕ) → cap n ≡ bit (nat_lt 0 n) + bit (nat_lt 1 n)
 one_capped zero = refl
@@ -89,13 +82,14 @@ total_capped w (x ∷ xs) =
 pub alike-flat_map : (f : ℕ → List ℕ) (xs ys : List ℕ) → AreAlike xs ys → AreAlike (flat_map f xs) (flat_map f ys)
 alike-flat_map f xs ys h =
     λ p.
+    let w = λ (x : ℕ). bit (p x) in
     let some = λ (x : ℕ). nat_lt 0 (tally p (f x)) in
     let many = λ (x : ℕ). nat_lt 1 (tally p (f x)) in
-    ap cap (tally-flat_map p f xs)
+    ap cap (total_flat w f xs)
     ∙ total_capped (λ x. tally p (f x)) xs
     ∙ cap_both (tally some xs) (tally many xs) (tally some ys) (tally many ys) (h some) (h many)
     ∙ sym (total_capped (λ x. tally p (f x)) ys)
-    ∙ sym (ap cap (tally-flat_map p f ys))
+    ∙ sym (ap cap (total_flat w f ys))
 
 -- ---- tests
 
@@ -105,14 +99,6 @@ more_than k a b h e =
       | inl less ↦ lt-ltb k a less ∙ sym (lt-ltb k b (omega (arith, h, e, less)))
       | inr most ↦ le-ltb k a most ∙ sym (le-ltb k b (omega (arith, h, e, most)))
     ]
-
-any_step : (b more : Bool) (n : ℕ) → more ≡ nat_lt 0 n → (b || more) ≡ nat_lt 0 (bit b + n)
-any_step true more n e = sym (lt-ltb 0 (1 + n) (omega arith))
-any_step false more n e = let same : n ≡ 0 + n = omega arith in e ∙ ap (nat_lt 0) same
-
-pub any_is : (p : ℕ → Bool) (xs : List ℕ) → list_any p xs ≡ nat_lt 0 (tally p xs)
-any_is p [] = refl
-any_is p (x ∷ xs) = any_step (p x) (list_any p xs) (tally p xs) (any_is p xs)
 
 pub alike_any : (p : ℕ → Bool) (xs ys : List ℕ) → AreAlike xs ys → list_any p xs ≡ list_any p ys
 alike_any p xs ys h =
@@ -231,26 +217,11 @@ rows_below g ns =
     (rows_of g ns)
     (rows_named g ns)
 
--- numbers below n, counted one by one
-pub counted_below : (n : ℕ) (xs : List ℕ) → Each (λ x. x < n) xs → length xs ≡ sum_below (λ r. tally (is_it r) xs) n
-counted_below n [] h = sym (below_none (λ r. 0) n (λ r less. refl))
-counted_below n (x ∷ xs) h =
-    omega (
-      arith,
-      counted_below n xs h.1,
-      below_two (only (λ r. 1) x) (λ r. tally (is_it r) xs) n,
-      one_below (λ r. 1) x n h.0,
-    )
-
-twice_below : (v : ℕ → ℕ) (n : ℕ) → ((r : ℕ) → v r ≤ 2) → sum_below v n ≤ 2 * n
-twice_below v zero h = omega arith
-twice_below v (suc n) h = omega (arith, h n, twice_below v n h)
-
 pub rows_few : (g : Ground) (ns : List ℕ) → length (rows_of g ns) ≤ 2 * row_count g.memory
 rows_few g ns =
     let count = counted_below (row_count g.memory) (rows_of g ns) (rows_below g ns) in
     let most =
-    twice_below (λ r. tally (is_it r) (rows_of g ns)) (row_count g.memory) (λ r. twice_at_most g ns r)
+    below_twice (λ r. tally (is_it r) (rows_of g ns)) (row_count g.memory) (λ r. twice_at_most g ns r)
     in
     omega (arith, count, most)
 

@@ -1,5 +1,6 @@
 -- A table's variables, and the place at which it is open, by what the pass over it finds.
 use Rattle.std.proofs.Common.{◌≡◌, ℕ, zero, suc, ◌+◌, ◌-◌, ◌<◌, ◌≤◌, List, [], ◌∷◌, ◌++◌, refl, sym, ap, ◌∙◌, length, arith, Bool, true, ◌&&◌, not, take, drop, ⊎_elim, Option, Some, None}
+use Rattle.std.proofs.lemmas.Bool.{and_parts}
 use Rattle.std.proofs.Math.Seq.{take-append_seam, take-length}
 use Rattle.std.proofs.lemmas.List.{length-append, length-map, length-take-le, length-drop, take-append-drop, take-map, drop-map}
 use Rattle.std.proofs.lemmas.List.Folds.{list_all-append}
@@ -11,7 +12,7 @@ use Rattle.nxt_types.specs.Names.{size, sizes}
 use Rattle.nxt_layout.specs.Items.{open_from}
 use Rattle.nxt_layout.specs.Leaves.{Site, sites_in, sites_among, voids_stand_alone, is_void, AreShapes}
 use Rattle.nxt_layout.specs.LayoutRules.{IsOpen}
-use Rattle.nxt_layout.proofs.Opening.{no_void, no_voids, is_variable, are_variables, Split, OpensAt, parsed, opens, at_least, over_variable, over_variables, both}
+use Rattle.nxt_layout.proofs.Opening.{no_void, no_voids, is_variable, are_variables, Split, OpensAt, parsed, opens, at_least, over_variable, over_variables}
 
 -- ---- voids
 
@@ -144,8 +145,8 @@ first_spelled table v k pos within r = at (shapes_of_split (take k (drop v table
         let l : length (take k (drop v table)) ≡ k = length-take-le k (drop v table) (omega (arith, length-drop v table, within)) in
         let e = ap (λ x. length x) h.spelled.entries in
         let n : size s ≤ k = omega (arith, e, l, length-map (take k (drop v table)) outline, length-append (spelling s) (spellings ss), length-spelling s) in
-        let f = both (is_filled s) (are_filled ss) h.spelled.filled in
-        let g = both (is_variable s) (are_variables ss) (sym (variables_sites (member s ss) 0) ∙ h.voids) in
+        let f = and_parts (is_filled s) (are_filled ss) h.spelled.filled in
+        let g = and_parts (is_variable s) (are_variables ss) (sym (variables_sites (member s ss) 0) ∙ h.voids) in
         let less : v + size s - v ≡ size s = omega arith in (
           s,
           record {

@@ -1,8 +1,6 @@
 -- What the passes over a file's rows compute.
 use Rattle.std.specs.Prelude.{ℕ, zero, suc, ◌+◌, ◌-◌, ◌*◌, ◌<◌, ◌≤◌, ◌≡◌, min, max, Bool, true, false, ◌&&◌, ◌||◌, not, ◌==◌, nat_lt, nat_le, List, [], ◌∷◌, ◌++◌, map, filter, find, fold, flat_map, length, count_by, slice_index, sum_by, option_map, Option, Some, None, if◌then◌else◌}
 use Rattle.std.specs.List.{list_any}
-use Rattle.std.specs.BTreeMap.{get}
-use Rattle.std.specs.Ordering.{nat_cmp}
 use Rattle.nxt_model.specs.Footprint.{round4}
 use Rattle.nxt_model.specs.Reading.{row_count, u16_in}
 use Rattle.nxt_layout.specs.declared.item.Item.{Item}
@@ -260,17 +258,14 @@ opened o = record { entry = o.entry; read = o.read.items }
 abbrev pub through : ArrayRows → Through
 through a = record { entry = a.entry; bytes = a.bytes; rows = a.rows.items; lists = a.lists; beyond = a.beyond }
 
-abbrev pub or_none : Option ℕ → ℕ
-or_none None = 0
-or_none (Some n) = n
-
--- the counts tell how often each row is among them
-abbrev pub IsCounted : (ℕ → Option ℕ) → List ℕ → Type 0
-IsCounted count rows = (r : ℕ) → or_none (count r) ≡ times r rows
+-- the counts tell how often each row of the table is among them
+pub record IsCounted (n : Names) : Type 0 where
+  pub count : length n.times.items ≡ n.table_rows
+  pub times : (r : ℕ) → r < n.table_rows → slice_index n.times.items r ≡ times r n.rows.items
 
 -- with the rows of these numbers
 pub record Takes (g : Ground) (numbers : List ℕ) (old new : Names) : Type 0 where
   pub rows : new.rows.items ≡ fold (with_number g) old.rows.items numbers
   pub beyond : new.beyond ≡ (old.beyond || list_any (is_beyond g) numbers)
-  pub counted : IsCounted (get nat_cmp new.times) new.rows.items
+  pub counted : IsCounted new
   pub table : new.table_rows ≡ old.table_rows

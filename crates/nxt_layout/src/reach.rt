@@ -135,7 +135,7 @@ fn rows_through(
     ensures found { IfOk result (λ array. through array ≡ through_by (ground_of space.now) (slice_index extents.now) leaf.now (places_in (ground_of space.now) (map opened stack.now.items))) }
 {
     let table_rows = space.rows();
-    let mut names = Names::new(alloc, table_rows);
+    let mut names = Names::new(alloc, table_rows)?;
     let lists = match stack.front() {
         None => {
             names.take(space.number_at(leaf.place))?;

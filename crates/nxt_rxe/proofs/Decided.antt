@@ -1,6 +1,6 @@
 -- A file that breaks no rule has parts, and each file has parts or is refused.
 use Rattle.std.proofs.Common.{◌≡◌, ℕ, zero, suc, ◌+◌, ◌-◌, ◌*◌, ◌/◌, ◌%◌, ◌^◌, ◌<◌, ◌≤◌, Bool, true, false, List, [], ◌∷◌, ◌++◌, length, take, drop, refl, sym, ap, ap₂, subst, ◌∙◌, arith, ltb-true, ltb-false, eq-eqb, eqb-true, inl, inr, ◌⊎◌}
-use Rattle.std.proofs.lemmas.Bool.{cases_lt}
+use Rattle.std.proofs.lemmas.Bool.{cases_lt, and_parts, false_from_ne_true}
 use Rattle.std.proofs.lemmas.List.Elements.{All-from_recursion}
 use Rattle.std.specs.List.{AllByRecursion}
 use Rattle.std.specs.Prelude.{flat_map, nat_lt, not, ◌&&◌, ◌==◌, IsTrue, slice_index, slice_index_or, slice_range}
@@ -14,7 +14,7 @@ use Rattle.nxt_rxe.specs.declared.parts.Parts.{Parts}
 use Rattle.nxt_rxe.specs.Files.{format, two_bytes, entry_bytes, clump_bytes, EntryFits, ClumpFits, IsFile}
 use Rattle.nxt_rxe.specs.FileRules.{number_at, table_end, defaults_end, clumps_start, clumps_end, dependents_end, next_even, code_end, passing, Broken, rank}
 use Rattle.nxt_rxe.specs.Reading.{HasHead, IsHeader, SectionBytes, AreSections, ArePartsOf}
-use Rattle.nxt_rxe.proofs.Steps.{both, not_true, not_holds}
+use Rattle.nxt_rxe.proofs.Steps.{not_true}
 use Rattle.nxt_rxe.proofs.FirstFault.{short_is_first, format_is_first, version_in, version_is_first, section_is_first}
 use Rattle.nxt_rxe.proofs.Found.{IsBytes, is_found, part_len}
 
@@ -205,10 +205,10 @@ sections_of bytes =
 
 module _ (bytes : List ℕ) (b : IsBytes bytes) (head : HasHead bytes) (none : None_below (λ s. slice_index_or (passing bytes) s false) 6) where
   no_dynamic : slice_index_or (passing bytes) 2 false ≡ false
-  no_dynamic = not_holds _ (none 2 (omega arith))
+  no_dynamic = false_from_ne_true _ (none 2 (omega arith))
 
   within : code_end bytes ≤ length bytes
-  within = ltb-false (length bytes) (code_end bytes) (not_holds _ (none 5 (omega arith)))
+  within = ltb-false (length bytes) (code_end bytes) (false_from_ne_true _ (none 5 (omega arith)))
 
   at : AreSections bytes (sections_of bytes)
   at = record { table = refl; defaults = refl; clumps = refl; dependents = refl; code = refl; dynamic = no_dynamic; end = within }
@@ -286,7 +286,7 @@ by_version bytes b long format true e =
       long = long;
       format = format;
       version = λ v h.
-          let ps = both (v == version_in bytes) (not (v == 5)) h in
+          let ps = and_parts (v == version_in bytes) (not (v == 5)) h in
           not_true (v == 5) (eq-eqb v 5 (eqb-true v (version_in bytes) ps.0 ∙ eqb-true (version_in bytes) 5 e)) ps.1;
     })
 by_version bytes b long format false e = inl (Version (version_in bytes), version_is_first bytes long format e)
@@ -296,7 +296,7 @@ unfolding Decided
 by_format bytes b long =
     elim (least (λ i. nat_lt i 14 && not (slice_index bytes i == slice_index format i)) 14) [
       | inl f ↦ inl (Format f.at, format_is_first bytes f.at long f.holds f.before)
-      | inr none ↦ by_version bytes b long (λ i h. none i (ltb-true i 14 (both (nat_lt i 14) (not (slice_index bytes i == slice_index format i)) h).0) h) (version_in bytes == 5) refl
+      | inr none ↦ by_version bytes b long (λ i h. none i (ltb-true i 14 (and_parts (nat_lt i 14) (not (slice_index bytes i == slice_index format i)) h).0) h) (version_in bytes == 5) refl
     ]
 
 -- each file has parts or is refused

@@ -1,5 +1,6 @@
 -- A file breaks none of the rules of its sections.
 use Rattle.std.proofs.Common.{◌≡◌, ℕ, ◌+◌, ◌-◌, ◌*◌, ◌/◌, ◌%◌, ◌^◌, ◌<◌, ◌≤◌, Bool, true, false, List, [], ◌∷◌, ◌++◌, length, take, refl, sym, ap, ap₂, subst, ◌∙◌, append_assoc, arith, take_at, drop_at, mul-suc, ltb-true, eqb-true, eq-eqb}
+use Rattle.std.proofs.lemmas.Bool.{and_parts, false_from_ne_true}
 use Rattle.std.specs.Prelude.{◌||◌, not, nat_lt, ◌==◌, IsTrue, All, flat_map, slice_index, slice_range}
 use Rattle.std.proofs.lemmas.List.{length-append}
 use Rattle.std.proofs.Math.ListN.{get_or-append}
@@ -9,7 +10,7 @@ use Rattle.nxt_types.specs.declared.lists.ClumpRec.{ClumpRec}
 use Rattle.nxt_rxe.specs.declared.parts.Header.{Header}
 use Rattle.nxt_rxe.specs.declared.parts.Parts.{Parts}
 use Rattle.nxt_rxe.specs.declared.fault.RxeFault.TheVariants.{Short, Format, Version, Section, NoMemory}
-use Rattle.nxt_rxe.proofs.Steps.{not_holds, both, not_past, not_true}
+use Rattle.nxt_rxe.proofs.Steps.{not_past, not_true}
 use Rattle.nxt_rxe.proofs.Within.{no_section}
 use Rattle.nxt_rxe.proofs.FileLaw.{three, whole_is, after_front, after_middle}
 use Rattle.nxt_rxe.specs.Files.{format, version, HasCounts, two_bytes, numbers, head_bytes, entry_bytes, clump_bytes, front_bytes, middle_bytes, code_bytes, dependent_count, IsFile}
@@ -180,7 +181,7 @@ no_dynamic bytes p f =
     let n26 = s.dyn_size in
     let whole = f.dynamic.dataspace in
     one_of _ _
-    (λ h. let parts = both _ _ h in
+    (λ h. let parts = and_parts _ _ h in
     let some : 0 < number_at bytes 26 = ltb-true _ _ parts.0 in
     let past : number_at bytes 22 < number_at bytes 24 + number_at bytes 26 = ltb-true _ _ parts.1 in
     let fits = f.dynamic.defaults (omega (arith, some, n26)) in
@@ -190,18 +191,18 @@ no_dynamic bytes p f =
 -- a file that has parts breaks no rule of its sections
 pub breaks_nothing : (bytes : List ℕ) (p : Parts) → IsFile bytes p → IsAccepted (Broken bytes)
 breaks_nothing bytes p f (Short n) h =
-    let parts = both (nat_lt n 38) (n == length bytes) h in
+    let parts = and_parts (nat_lt n 38) (n == length bytes) h in
     let below : n < 38 = ltb-true n 38 parts.0 in
     let same : n ≡ length bytes = eqb-true n (length bytes) parts.1 in
     let whole = whole_code bytes p f in
     omega (arith, below, same, whole)
 breaks_nothing bytes p f (Format i) h =
-    let parts = both (nat_lt i 14) (not (slice_index bytes i == slice_index format i)) h in
+    let parts = and_parts (nat_lt i 14) (not (slice_index bytes i == slice_index format i)) h in
     let lt : i < 14 = ltb-true i 14 parts.0 in
     not_true (slice_index bytes i == slice_index format i) (eq-eqb _ _ ((shown bytes p f).format i lt)) parts.1
 breaks_nothing bytes p f (Version v) h =
-    let parts = both (v == slice_index bytes 15 + 256 * slice_index bytes 14) (not (v == 5)) h in
+    let parts = and_parts (v == slice_index bytes 15 + 256 * slice_index bytes 14) (not (v == 5)) h in
     let same : v ≡ slice_index bytes 15 + 256 * slice_index bytes 14 = eqb-true _ _ parts.0 in
     not_true (v == 5) (eq-eqb v 5 (same ∙ (shown bytes p f).version)) parts.1
-breaks_nothing bytes p f (Section k) h = no_section bytes (not_holds _ (no_dynamic bytes p f)) (whole_code bytes p f) k h
+breaks_nothing bytes p f (Section k) h = no_section bytes (false_from_ne_true _ (no_dynamic bytes p f)) (whole_code bytes p f) k h
 breaks_nothing bytes p f NoMemory h = absurd cc

@@ -1,13 +1,12 @@
 -- How a first fault is shown to be the refusal: one lemma for each rule, over what the tests before it have shown.
 use Rattle.std.proofs.Common.{◌≡◌, ℕ, ◌+◌, ◌*◌, false, ◌<◌, ◌≤◌, List, [], ◌∷◌, length, refl, sym, subst, arith, ltb-true, lt-ltb, eq-eqb, eqb-true, le-ltb, inl, inr}
-use Rattle.std.proofs.lemmas.Bool.{cases_lt}
+use Rattle.std.proofs.lemmas.Bool.{cases_lt, and_parts}
 use Rattle.std.specs.Prelude.{nat_lt, not, ◌==◌, IsTrue, slice_index}
 use Rattle.nxt_types.specs.Refusals.{IsRefusal, comes_first}
 use Rattle.nxt_rxe.specs.declared.fault.RxeFault.{RxeFault}
 use Rattle.nxt_rxe.specs.declared.fault.RxeFault.TheVariants.{Short, Format, Version, Section, NoMemory}
 use Rattle.nxt_rxe.specs.FileRules.{Broken, rank, defaults_end, clumps_end, dependents_end, code_end, dynamic_passes}
 use Rattle.nxt_rxe.specs.Reading.{HasHead, IsFirstSection}
-use Rattle.nxt_rxe.proofs.Steps.{both}
 use Rattle.nxt_rxe.proofs.Within.{before_clumps, before_dependents, before_code}
 
 -- a place at or behind another comes no earlier
@@ -22,7 +21,7 @@ not_before v w h =
 
 no_short : (bytes : List ℕ) (n : ℕ) → 38 ≤ length bytes → Broken bytes (Short n) → ⊥
 no_short bytes n long h =
-    let parts = both (nat_lt n 38) (n == length bytes) h in
+    let parts = and_parts (nat_lt n 38) (n == length bytes) h in
     let below : n < 38 = ltb-true n 38 parts.0 in
     let same : n ≡ length bytes = eqb-true n (length bytes) parts.1 in
     omega (arith, below, same, long)
@@ -31,7 +30,7 @@ pub short_is_first : (bytes : List ℕ) → length bytes < 38 → IsRefusal (Bro
 short_is_first bytes few = record { broken = rw (lt-ltb (length bytes) 38 few, eq-eqb (length bytes) (length bytes) refl) refl; least = least } where
   least : (g : RxeFault) → Broken bytes g → IsTrue (comes_first (rank (Short (length bytes))) (rank g))
   least (Short n) h =
-      let same : n ≡ length bytes = eqb-true n (length bytes) (both (nat_lt n 38) (n == length bytes) h).1 in
+      let same : n ≡ length bytes = eqb-true n (length bytes) (and_parts (nat_lt n 38) (n == length bytes) h).1 in
       not_before n (length bytes) (λ lt. omega (arith, lt, same))
   least (Format i) h = refl
   least (Version v) h = refl
@@ -56,7 +55,7 @@ version_is_first bytes long format e = record { broken = rw (eq-eqb (version_in 
   least (Short n) h = absurd (no_short bytes n long h)
   least (Format j) h = absurd (format j h)
   least (Version v) h =
-      let same : v ≡ version_in bytes = eqb-true v (version_in bytes) (both (v == version_in bytes) (not (v == 5)) h).0 in
+      let same : v ≡ version_in bytes = eqb-true v (version_in bytes) (and_parts (v == version_in bytes) (not (v == 5)) h).0 in
       not_before v (version_in bytes) (λ lt. omega (arith, lt, same))
   least (Section s) h = refl
   least NoMemory h = absurd cc

@@ -1,7 +1,7 @@
 -- What is read is a file of its parts.
 use Rattle.std.proofs.Common.{◌≡◌, ℕ, suc, ◌+◌, ◌-◌, ◌*◌, ◌/◌, ◌%◌, ◌^◌, ◌<◌, ◌≤◌, false, List, ◌∷◌, ◌++◌, length, get_or, take, drop, refl, sym, ap, ap₂, subst, ◌∙◌, append_assoc, arith, drop-cons, lt-ltb, ltb-true, ltb-false, eq-eqb, eqb-true, inl, inr}
 use Rattle.std.proofs.Math.ListN.{get_or-append}
-use Rattle.std.proofs.lemmas.Bool.{cases_lt}
+use Rattle.std.proofs.lemmas.Bool.{cases_lt, and_parts, or_parts}
 use Rattle.std.proofs.lemmas.Grind.{same_number_lists}
 use Rattle.std.proofs.lemmas.List.{length-take-le, length-drop, get_or-take, take-append-drop, drop-drop}
 use Rattle.std.proofs.lemmas.List.Elements.{All-from_recursion}
@@ -13,7 +13,7 @@ use Rattle.nxt_rxe.specs.declared.parts.Parts.{Parts}
 use Rattle.nxt_rxe.specs.Files.{format, version, two_bytes, numbers, head_bytes, entry_bytes, clump_bytes, front_bytes, middle_bytes, code_bytes, dependent_count, HasCounts, HasDynamic, IsFile}
 use Rattle.nxt_rxe.specs.FileRules.{number_at, dependents_told, table_end, defaults_end, clumps_start, clumps_end, dependents_end, next_even, code_end, dynamic_passes, Broken}
 use Rattle.nxt_rxe.specs.Reading.{HasHead, IsHeader, SectionBytes, AreSections, ArePartsOf}
-use Rattle.nxt_rxe.proofs.Steps.{both, passed, neither, not_both}
+use Rattle.nxt_rxe.proofs.Steps.{passed, not_both}
 use Rattle.nxt_rxe.proofs.Within.{no_section}
 use Rattle.nxt_rxe.proofs.FileSound.{told_is, flat_len, front_len, middle_len}
 
@@ -126,7 +126,7 @@ module _ (bytes : List ℕ) (h : Header) (b : IsBytes bytes) (long : 38 ≤ leng
       let n22 = is.default_size in
       let n24 = is.dyn_at in
       let n26 = is.dyn_size in
-      let parts = neither _ _ none in
+      let parts = or_parts _ _ none in
       record {
         defaults = λ some.
             let le : number_at bytes 24 + number_at bytes 26 ≤ number_at bytes 22 = ltb-false _ _ (not_both _ _ parts.0 (lt-ltb 0 (number_at bytes 26) (omega (arith, some, n26)))) in
@@ -251,7 +251,7 @@ module _ (bytes : List ℕ) (s : SectionBytes) (head : HasHead bytes) (at : AreS
   -- bytes with a right head and whole sections break no rule
   pub is_accepted : IsAccepted (Broken bytes)
   is_accepted (Short n) h =
-      let parts = both (nat_lt n 38) (n == length bytes) h in
+      let parts = and_parts (nat_lt n 38) (n == length bytes) h in
       let below : n < 38 = ltb-true n 38 parts.0 in
       let same : n ≡ length bytes = eqb-true n (length bytes) parts.1 in
       let long = head.long in

@@ -1,29 +1,15 @@
 -- Tests and results.
 use Rattle.std.proofs.Common.{◌≡◌, ℕ, ◌<◌, ◌≤◌, Bool, true, false, refl, arith, ltb-true}
-use Rattle.std.specs.Prelude.{◌&&◌, ◌||◌, not, nat_lt, IsTrue, OnOk, Result, Ok, Err}
-
--- both parts of a test that holds
-pub both : (a b : Bool) → IsTrue (a && b) → IsTrue a × IsTrue b
-both true true h = (refl, refl)
-both true false h = absurd cc
-both false b h = absurd cc
+use Rattle.std.specs.Prelude.{◌&&◌, not, nat_lt, IsTrue, OnOk, Result, Ok, Err}
 
 pub not_true : (a : Bool) → IsTrue a → IsTrue (not a) → ⊥
 not_true true h k = absurd cc
 not_true false h k = absurd cc
 
-pub not_holds : (a : Bool) → (IsTrue a → ⊥) → a ≡ false
-not_holds true h = absurd (h refl)
-not_holds false h = refl
-
 pub passed : (a b : Bool) → IsTrue a → (IsTrue (a && not b) → ⊥) → IsTrue b
 passed true true h k = refl
 passed true false h k = absurd (k refl)
 passed false b h k = absurd cc
-
-pub neither : (a b : Bool) → (a || b) ≡ false → (a ≡ false) × (b ≡ false)
-neither true b h = absurd cc
-neither false b h = (refl, h)
 
 pub not_both : (a b : Bool) → (a && b) ≡ false → IsTrue a → b ≡ false
 not_both true b h k = h

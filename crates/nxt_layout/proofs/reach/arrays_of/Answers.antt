@@ -1,7 +1,7 @@
 -- One more leaf, which may be an array.
-use Rattle.std.proofs.Common.{rules, ◌≡◌, ℕ, suc, ◌+◌, ◌≤◌, ◌^◌, true, false, ◌++◌, [], ◌∷◌, All, None, ap, ap₂, sym, ◌∙◌, subst, map, length, drop, drop-cons, get_or, arith}
+use Rattle.std.proofs.Common.{rules, ◌≡◌, ◌+◌, ◌≤◌, ◌^◌, true, false, ◌++◌, [], ◌∷◌, All, None, ap, ap₂, sym, ◌∙◌, subst, map, length, drop, get_or}
 use Rattle.std.specs.Prelude.{slice_index}
-use Rattle.std.proofs.lemmas.List.{map-append}
+use Rattle.std.proofs.lemmas.List.{map-append, drop_more}
 use Rattle.std.proofs.lemmas.List.Elements.{All-cons, All-push}
 use Rattle.nxt_layout.specs.declared.item.Item.TheVariants.{Void}
 use Rattle.nxt_layout.specs.declared.leaves.Leaf.{Leaf}
@@ -11,9 +11,6 @@ use Rattle.nxt_layout.specs.RowPasses.{ground_of, through, opened, is_array_item
 use Rattle.nxt_layout.proofs.Through.{array_more, array_less}
 use Rattle.nxt_layout.proofs.reach.arrays_of.Goals.{then-is_array+in_ok-array+in_ok-opened_by+in_ok-push_front+in_ok-push, else-is_array}
 use Rattle.nxt_layout.proofs.reach.arrays_of.Goals as goal
-
-one_more : (n : ℕ) → suc n ≡ n + 1
-one_more n = omega arith
 
 abbrev IsShort : OpenArray → Type 0
 IsShort o = length o.read.items ≤ 2 ^ 17
@@ -30,7 +27,7 @@ loop-leaf-preserved c =
     let d : Leaf = record { entry = 0; place = 0; item = Void; array = None; has_default = false } in
     let l = get_or leaves k d in
     let rest = drop (k + 1) leaves in
-    let next : drop k leaves ≡ l ∷ rest = drop-cons leaves k d c.loop-leaf-test.true ∙ ap (λ n. l ∷ drop n leaves) (one_more k) in
+    let next : drop k leaves ≡ l ∷ rest = drop_more leaves k d c.loop-leaf-test.true in
     let done = map through c.loop-leaf.arrays.items in
     let os = map opened c.loop-leaf.stack.items in
     let found = ap (λ ls. done ++ through_from g ext os (array_leaves ls)) (sym next) ∙ c.loop-leaf.invariant.found in

@@ -17,16 +17,16 @@ returns-clause-few c =
     let g = ground_of c.args.space.now in
     let place = c.args.leaf.now.place in
     let few : row_count g.memory < 2 ^ 16 = search rules in
-    let table = c.new-names.ensures.table ∙ c.rows-table_rows.ensures in
+    let table = c.in_ok-names.ensures.table ∙ c.rows-table_rows.ensures in
     elim c.match-front.branch [
       | in-None+in_ok-take-in-None w ↦ subst
           (λ (n : Names). length n.rows.items ≤ 2 ^ 17)
           (sym w.names-is)
-          (taken_few g (w.number_at.result ∷ []) c.new-names.result w.take.new.self c.new-names.ensures.rows (w.in_ok-take-in-None.ensures g table) few)
+          (taken_few g (w.number_at.result ∷ []) c.in_ok-names.names w.take.new.self c.in_ok-names.ensures.rows (w.in_ok-take-in-None.ensures g table) few)
       | in-Some+in_ok-take_rows-in-Some w ↦ subst
           (λ (n : Names). length n.rows.items ≤ 2 ^ 17)
           (sym w.names-is)
-          (taken_few g (numbers_in g place (flat_map (elements_of g) w.as_slice.result.now)) c.new-names.result w.take_rows.new.self c.new-names.ensures.rows w.in_ok-take_rows-in-Some.ensures few)
+          (taken_few g (numbers_in g place (flat_map (elements_of g) w.as_slice.result.now)) c.in_ok-names.names w.take_rows.new.self c.in_ok-names.ensures.rows w.in_ok-take_rows-in-Some.ensures few)
     ]
 
 pub returns-clause-found : goal.returns-clause-found
@@ -35,30 +35,30 @@ returns-clause-found c =
     let ext = slice_index c.args.extents.now in
     let leaf = c.args.leaf.now in
     let os = c.args.stack.now.items in
-    let table = c.new-names.ensures.table ∙ c.rows-table_rows.ensures in
+    let table = c.in_ok-names.ensures.table ∙ c.rows-table_rows.ensures in
     elim c.match-front.branch [
       | in-None+in_ok-take-in-None w ↦ (let short : length os ≤ 0 = search rules in
           let none = nothing_open os short in
           let takes =
           subst
-          (λ n. Takes g (n ∷ []) c.new-names.result w.take.new.self)
+          (λ n. Takes g (n ∷ []) c.in_ok-names.names w.take.new.self)
           (w.number_at.ensures ∙ ap (u16_in g.memory.bytes) (zero_more leaf.place))
           (w.in_ok-take-in-None.ensures g table)
           in
           ap (λ (n : Names). record { entry = leaf.entry; bytes = c.extent.result; rows = n.rows.items; lists = c.match-front.lists; beyond = n.beyond }) w.names-is
-          ∙ taken_through g ext leaf (0 ∷ []) c.new-names.result w.take.new.self c.extent.result c.match-front.lists takes c.new-names.ensures.rows c.new-names.ensures.beyond c.extent.ensures w.lists-is
+          ∙ taken_through g ext leaf (0 ∷ []) c.in_ok-names.names w.take.new.self c.extent.result c.match-front.lists takes c.in_ok-names.ensures.rows c.in_ok-names.ensures.beyond c.extent.ensures w.lists-is
           ∙ ap (λ ps. through_by g ext leaf (places_in g (map opened ps))) (sym none))
       | in-Some+in_ok-take_rows-in-Some w ↦ (let some : 0 < length os = search rules in
           let read = w.in-Some.array.now.read.items in
           let places = next_places g os w.in-Some.array.now some (search rules) in
           let takes =
           subst
-          (λ rs. Takes g (numbers_in g leaf.place (flat_map (elements_of g) rs)) c.new-names.result w.take_rows.new.self)
+          (λ rs. Takes g (numbers_in g leaf.place (flat_map (elements_of g) rs)) c.in_ok-names.names w.take_rows.new.self)
           w.as_slice.ensures.value
           w.in_ok-take_rows-in-Some.ensures
           in
           let lists = w.lists-is ∙ w.elements-lists.ensures.count ∙ ap (λ rs. length (flat_map (elements_of g) rs)) w.as_slice-in-Some.ensures.value in
           ap (λ (n : Names). record { entry = leaf.entry; bytes = c.extent.result; rows = n.rows.items; lists = c.match-front.lists; beyond = n.beyond }) w.names-is
-          ∙ taken_through g ext leaf (flat_map (elements_of g) read) c.new-names.result w.take_rows.new.self c.extent.result c.match-front.lists takes c.new-names.ensures.rows c.new-names.ensures.beyond c.extent.ensures lists
+          ∙ taken_through g ext leaf (flat_map (elements_of g) read) c.in_ok-names.names w.take_rows.new.self c.extent.result c.match-front.lists takes c.in_ok-names.ensures.rows c.in_ok-names.ensures.beyond c.extent.ensures lists
           ∙ ap (through_by g ext leaf) places)
     ]

@@ -1,10 +1,10 @@
 -- One more row is marked.
-use Rattle.std.proofs.Common.{◌≡◌, ℕ, suc, ◌+◌, ◌<◌, ◌≤◌, Bool, true, false, cond, ◌==◌, if◌then◌else◌, min, max, List, ◌++◌, length, take, drop, get_or, slice_index, sym, ap, ◌∙◌, subst, arith, add-one, drop-cons}
+use Rattle.std.proofs.Common.{◌≡◌, ℕ, ◌+◌, ◌<◌, ◌≤◌, Bool, true, false, cond, ◌==◌, if◌then◌else◌, min, max, List, ◌++◌, length, take, drop, get_or, slice_index, sym, ap, ◌∙◌, subst, arith}
 use Rattle.std.proofs.lemmas.Bool.Decides.{nat_tests}
-use Rattle.std.proofs.lemmas.List.{take-append-le, take_all}
+use Rattle.std.proofs.lemmas.List.{take-append-le, take_all, drop_more}
 use Rattle.std.proofs.lemmas.List.Sums.{sum_by-cons}
 use Rattle.nxt_layout.specs.RowPasses.{times}
-use Rattle.nxt_layout.proofs.Each.{bit}
+use Rattle.nxt_layout.proofs.Totals.{bit}
 use Rattle.nxt_layout.proofs.rows.marks_of.Goals as goal
 
 -- the marks with that of row q once more
@@ -27,9 +27,7 @@ same_test r q = grind (arith, nat_tests)
 -- the rows from k on are q and those behind
 times_here : (rows : List ℕ) (k r : ℕ) → k < length rows → times r (drop k rows) ≡ bit (get_or rows k 0 == r) + times r (drop (k + 1) rows)
 times_here rows k r h =
-    ap (times r) (drop-cons rows k 0 h)
-    ∙ sum_by-cons (λ q. cond (q == r) 1 0) (get_or rows k 0) (drop (suc k) rows)
-    ∙ ap (λ n. bit (get_or rows k 0 == r) + times r (drop n rows)) (sym (add-one k))
+    ap (times r) (drop_more rows k 0 h) ∙ sum_by-cons (λ q. cond (q == r) 1 0) (get_or rows k 0) (drop (k + 1) rows)
 
 times_more : (rows : List ℕ) (k : ℕ) (old new : List ℕ) → k < length rows → HasMark (get_or rows k 0) old new → ((r : ℕ) → r < length old → slice_index old r ≤ 2) →
     ((r : ℕ) → r < length old → min 2 (slice_index old r + times r (drop k rows)) ≡ min 2 (times r rows)) →
