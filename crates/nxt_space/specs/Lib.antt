@@ -1,2 +1,5 @@
+pub mod Fills
 pub mod Held
 pub mod Homes
+pub mod Spots
+pub mod Writes
