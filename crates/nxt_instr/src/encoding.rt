@@ -27,7 +27,7 @@ pub fn encode(op: Op, cmp: Cmp, args: &[u16], into: &mut Words) -> Result<(), No
         IsStatement (into.new ++ more) (length into.old) (statement op cmp args.now)
         (length (long_form_of op cmp args.now))) }
 {
-    let words = long_form(into.allocator(), op, cmp, args)?;
+    let words = long_form(*into.as_vec().allocator(), op, cmp, args)?;
     into.append(words.as_slice())
 }
 

@@ -4,9 +4,9 @@ use Rattle.std.specs.Prelude.{◌==◌, slice_index}
 use Rattle.std.proofs.lemmas.Bool.{cases_lt}
 use Rattle.std.proofs.lemmas.Bool.Decides.{nat_tests}
 use Rattle.nxt_model.specs.Reading.{row_count}
-use Rattle.nxt_layout.specs.Rows.{Ground, has_elements, is_placed}
+use Rattle.nxt_layout.specs.Rows.{Ground, has_elements, is_placed, is_full_in}
 use Rattle.nxt_layout.specs.declared.spans.Span.{Span}
-use Rattle.nxt_layout.specs.RowPasses.{first_below, times, is_full_in, is_full_by, IsMarked, row_bytes, full_bytes, spans_from, spans_of, row_span, table_span, SpansRise}
+use Rattle.nxt_layout.specs.RowPasses.{first_below, times, is_full_by, IsMarked, row_bytes, full_bytes, spans_from, spans_of, row_span, table_span, SpansRise}
 use Rattle.nxt_layout.proofs.Totals.{tally_is, any_is}
 use Rattle.nxt_layout.proofs.SumsBelow.{sums_same}
 

@@ -4,8 +4,8 @@ use Rattle.std.specs.List.{list_all, list_any}
 use Rattle.std.proofs.lemmas.Bool.{cases_lt, and_from, and_parts, or_left, or_right, false_from_ne_true}
 use Rattle.std.proofs.lemmas.Map.Views.{any-filter_same}
 use Rattle.nxt_layout.specs.Owners.{least_of}
-use Rattle.nxt_layout.specs.Rows.{Ground, row, has_elements, is_placed, is_strided_by, read_by}
-use Rattle.nxt_layout.specs.RowPasses.{Through, least, misstrided_in, stride_or, lead_of, is_odd, odd_of, is_from, is_even}
+use Rattle.nxt_layout.specs.Rows.{Ground, row, has_elements, stride_or, is_placed, is_strided_by, read_by}
+use Rattle.nxt_layout.specs.RowPasses.{Through, least, misstrided_in, lead_of, is_odd, odd_of, is_from, is_even}
 use Rattle.nxt_layout.proofs.Each.{Each, each_then, each_passes, passes_each}
 use Rattle.nxt_layout.proofs.Totals.{is_it}
 

@@ -10,10 +10,10 @@ use Rattle.std.proofs.lemmas.Bool.{cases_eq}
 use Rattle.nxt_model.specs.Reading.{u16_in}
 use Rattle.nxt_layout.specs.declared.names.Names.{Names}
 use Rattle.nxt_layout.specs.declared.reach.OpenArray.{OpenArray}
-use Rattle.nxt_layout.specs.Rows.{Ground, row, elements_of, places_from}
+use Rattle.nxt_layout.specs.Rows.{Ground, row, elements_of, places_from, is_beyond}
 use Rattle.nxt_layout.proofs.Found.{length-places}
 use Rattle.nxt_layout.proofs.Totals.{bit, tally_is, tally-append}
-use Rattle.nxt_layout.specs.RowPasses.{opened, is_back, back_to, times, with_number, numbers_in, is_beyond, IsCounted, Takes}
+use Rattle.nxt_layout.specs.RowPasses.{opened, is_back, back_to, times, with_number, numbers_in, IsCounted, Takes}
 
 -- of all these numbers the rest is left to take
 pub record IsLeft (g : Ground) (all rest : List ℕ) (initial now : Names) : Type 0 where

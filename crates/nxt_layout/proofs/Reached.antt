@@ -5,8 +5,8 @@ use Rattle.std.proofs.lemmas.List.Elements.{filter-append, filter_agree}
 use Rattle.nxt_types.specs.Shapes.{Shape, Void, Number, Array, Cluster, Mutex, Members, no_members, member}
 use Rattle.nxt_types.specs.Names.{size}
 use Rattle.nxt_layout.specs.Leaves.{Leaf, extent}
-use Rattle.nxt_layout.specs.Rows.{Ground, row, has_elements, is_placed, is_strided_by, is_array, names_row, numbers_at, read_by, elements_of, element_places, numbers_of, reached_through}
-use Rattle.nxt_layout.specs.RowPasses.{Through, rows_of, is_beyond, all_rows}
+use Rattle.nxt_layout.specs.Rows.{Ground, row, has_elements, is_placed, is_strided_by, is_array, names_row, is_beyond, numbers_at, read_by, elements_of, element_places, numbers_of, reached_through}
+use Rattle.nxt_layout.specs.RowPasses.{Through, rows_of, all_rows}
 use Rattle.nxt_layout.proofs.Each.{Each, each_apart, each_join}
 use Rattle.nxt_layout.proofs.Totals.{tally, is_it}
 use Rattle.nxt_layout.proofs.Fair.{leaf_in, leaves_in, leaves_among}

@@ -18,8 +18,8 @@ use Rattle.nxt_layout.specs.declared.fault.LayoutFault.TheVariants.{RowZero}
 use Rattle.nxt_layout.specs.declared.leaves.Leaf as flats
 use Rattle.nxt_layout.specs.declared.spans.Span.{Span}
 use Rattle.nxt_layout.specs.Leaves.{Leaf, AreShapes, leaf_of, extent, leaves}
-use Rattle.nxt_layout.specs.Rows.{Ground, row, row_end, has_elements, is_placed, is_strided, is_strided_by, is_array, reached_through, reached, arrays_of, is_full}
-use Rattle.nxt_layout.specs.RowPasses.{Through, bare_ground, extent_in, array_leaves, through_from, times, all_rows, first_beyond, first_below, least, misstrided_in, is_full_in, spans_share, first_spans, table_span, row_span, spans_from, spans_of}
+use Rattle.nxt_layout.specs.Rows.{Ground, row, row_end, has_elements, is_placed, is_strided, is_strided_by, is_array, reached_through, reached, arrays_of, is_full_in, is_full}
+use Rattle.nxt_layout.specs.RowPasses.{Through, bare_ground, extent_in, array_leaves, through_from, times, all_rows, first_beyond, first_below, least, misstrided_in, spans_share, first_spans, table_span, row_span, spans_from, spans_of}
 use Rattle.nxt_layout.specs.LayoutRules.{has_table, lacks_table, names_no_row, is_shared, is_missstrided, is_row_misplaced, place_of_row, end_of_row, rows_share_a_byte}
 use Rattle.nxt_layout.specs.Start.{ground}
 use Rattle.nxt_layout.specs.Layouts.{spells_array, ground_in, arrays_in, rows_fault, row_fault}

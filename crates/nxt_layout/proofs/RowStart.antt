@@ -1,5 +1,5 @@
 -- Where no rule of rows is broken, the passes tell the size of the start and the strides of the lists.
-use Rattle.std.proofs.Common.{◌≡◌, ℕ, ◌+◌, ◌*◌, ◌≤◌, Bool, true, List, [], ◌∷◌, map, flat_map, find, max, sum_by, length, Option, Some, None, if◌then◌else◌, refl, sym, ap, ap₂, ◌∙◌, subst, arith}
+use Rattle.std.proofs.Common.{◌≡◌, ℕ, ◌+◌, ◌*◌, ◌≤◌, Bool, true, List, [], ◌∷◌, map, flat_map, find, max, sum_by, length, Some, if◌then◌else◌, refl, sym, ap, ap₂, ◌∙◌, subst, arith}
 use Rattle.std.specs.Prelude.{slice_index}
 use Rattle.std.proofs.lemmas.List.Sums.{sum_by-cons}
 use Rattle.nxt_types.specs.Shapes.{Members}
@@ -10,9 +10,9 @@ use Rattle.nxt_model.specs.Reading.{Memory, row_count}
 use Rattle.nxt_layout.specs.declared.fault.LayoutFault.TheVariants.{Place}
 use Rattle.nxt_layout.specs.Leaves.{Leaf, AreShapes, leaves, leaf_of, extent}
 use Rattle.nxt_layout.specs.Dataspace.{memory}
-use Rattle.nxt_layout.specs.Rows.{Ground, has_elements, is_array, numbers_of, reached_through, arrays_of, is_full}
-use Rattle.nxt_layout.specs.RowPasses.{Through, all_rows, list_count, is_full_in, row_bytes, full_bytes, stride_or, stride_in, HaveStrides}
-use Rattle.nxt_layout.specs.Start.{ground, stride_of, stride_of_row, stride_through, all_with_strides, file_rows}
+use Rattle.nxt_layout.specs.Rows.{Ground, has_elements, stride_or, is_array, numbers_of, reached_through, arrays_of, is_full_in, is_full}
+use Rattle.nxt_layout.specs.RowPasses.{Through, all_rows, list_count, row_bytes, full_bytes, stride_in, HaveStrides}
+use Rattle.nxt_layout.specs.Start.{ground, stride_of, stride_through, all_with_strides, file_rows}
 use Rattle.nxt_layout.specs.LayoutRules.{Broken}
 use Rattle.nxt_layout.specs.Layouts.{FileLayout, layout_of, bytes_of_parts, ground_in, arrays_in, rows_in_file, size_of_start}
 use Rattle.nxt_layout.proofs.Each.{Each, each_then, each_filter}
@@ -95,14 +95,9 @@ size_same p plain shapes rules =
 
 -- ---- the strides
 
-row_stride : (g : Ground) (a : ℕ) (o : Option ℕ) → stride_or g (extent g.leaves a) o ≡ stride_of_row g a o
-row_stride g a None = refl
-row_stride g a (Some r) = refl
-
 stride_found : (g : Ground) (l : Leaf) → IsExact g l → leaf_of g.leaves l.entry ≡ Some l → stride_in g (few_through g l) ≡ stride_of g l.entry
 stride_found g l exact found =
     ap (λ rows. stride_or g (extent g.leaves l.entry) (find (has_elements g) rows)) exact.0
-    ∙ row_stride g l.entry (find (has_elements g) (reached_through g l))
     ∙ sym (ap (stride_through g) found)
 
 strides_agree : (g : Ground) (strides : List ℕ) (ls : List Leaf) → Each (IsExact g) ls → Each (λ l. leaf_of g.leaves l.entry ≡ Some l) ls → HaveStrides (bare g) strides (map (few_through g) ls) → Each (λ l. slice_index strides l.entry ≡ stride_of g l.entry) ls

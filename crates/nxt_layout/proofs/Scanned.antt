@@ -8,8 +8,9 @@ use Rattle.nxt_rxe.specs.declared.parts.Parts.{Parts}
 use Rattle.nxt_layout.specs.declared.leaves.Leaf as flats
 use Rattle.nxt_layout.specs.Leaves.{Leaf, AreShapes, leaves, end_of, extent, stands_in}
 use Rattle.nxt_layout.specs.Dataspace.{dataspace}
+use Rattle.nxt_layout.specs.LeafPasses.{same_array}
 use Rattle.nxt_layout.specs.Rows.{Ground, read_by, is_array, arrays_of}
-use Rattle.nxt_layout.specs.RowPasses.{Opened, Through, bare_ground, is_array_item, array_leaves, is_in, wider, extent_in, back_to, places_in, through_by, open_by, through_from}
+use Rattle.nxt_layout.specs.RowPasses.{Opened, Through, bare_ground, is_array_item, array_leaves, wider, extent_in, back_to, places_in, through_by, open_by, through_from}
 use Rattle.nxt_layout.specs.Start.{ground}
 use Rattle.nxt_layout.proofs.Each.{Each, each_then, each_join}
 use Rattle.nxt_layout.proofs.Fair.{leaf_in, leaves_in, leaves_among}
@@ -185,7 +186,7 @@ flat_arrays (l ∷ ls) =
     ap₂ (λ (b : Bool) (ks : List flats.Leaf). cond b (flat l ∷ ks) ks) (array_item l.shape) (flat_arrays ls)
     ∙ one_flat l (arrays_among ls) (is_array l.shape)
 
-in_next : (a : ℕ) (arrays : List ℕ) → is_in a (next_of arrays) ≡ stands_in a arrays
+in_next : (a : ℕ) (arrays : List ℕ) → same_array (Some a) (next_of arrays) ≡ stands_in a arrays
 in_next a [] = refl
 in_next a (b ∷ bs) = refl
 

@@ -11,9 +11,9 @@ use Rattle.nxt_model.specs.Values.{Value, values, group_of, elements, lists_in, 
 use Rattle.nxt_model.specs.Footprint.{pool_size, round4, list_bytes, member_bytes}
 use Rattle.nxt_model.specs.Reading.{Memory, HeldList, EachReads, RowReads, Reads, MembersRead, ReadsAs, row_count, u16_in, leaf_place}
 use Rattle.nxt_layout.specs.declared.fault.LayoutFault.TheVariants.{Place, PoolPassed}
-use Rattle.nxt_layout.specs.Leaves.{Leaf, AreShapes, leaves, leaf_of}
-use Rattle.nxt_layout.specs.Rows.{Ground, row, has_elements, names_row, is_strided, is_array, elements_of, element_places, numbers_of, reached_through, reached, arrays_of, is_full}
-use Rattle.nxt_layout.specs.Start.{ground, stride_of, stride_of_row, stride_through, with_strides, all_with_strides, file_rows, start_footprint, StartsAs}
+use Rattle.nxt_layout.specs.Leaves.{Leaf, AreShapes, leaves, leaf_of, extent}
+use Rattle.nxt_layout.specs.Rows.{Ground, row, has_elements, stride_or, names_row, is_strided, is_array, elements_of, element_places, numbers_of, reached_through, reached, arrays_of, is_full}
+use Rattle.nxt_layout.specs.Start.{ground, stride_of, stride_through, with_strides, all_with_strides, file_rows, start_footprint, StartsAs}
 use Rattle.nxt_layout.specs.RowPasses.{row_bytes, sum_below}
 use Rattle.nxt_layout.specs.LayoutRules.{Broken, PassesPool}
 use Rattle.nxt_layout.proofs.Each.{Each, each_from, each_then, each_both, each_flat, each_filter, each_passes}
@@ -164,11 +164,11 @@ same_below g a rows r strided full =
     (when_full (has_elements g r) _ _ full strided).1)
 
 -- rows that are reached through one entry have one stride
-one_stride : (g : Ground) (a : ℕ) (rows : List ℕ) (o : Option ℕ) → find (has_elements g) rows ≡ o → Each (λ r. is_strided g a rows r ≡ true) rows → Each (λ r. has_elements g r ≡ true → (row g r).stride ≡ stride_of_row g a o) rows
+one_stride : (g : Ground) (a : ℕ) (rows : List ℕ) (o : Option ℕ) → find (has_elements g) rows ≡ o → Each (λ r. is_strided g a rows r ≡ true) rows → Each (λ r. has_elements g r ≡ true → (row g r).stride ≡ stride_or g (extent g.leaves a) o) rows
 one_stride g a rows None e strided =
     each_then
     (λ r. has_elements g r ≡ false)
-    (λ r. has_elements g r ≡ true → (row g r).stride ≡ stride_of_row g a None)
+    (λ r. has_elements g r ≡ true → (row g r).stride ≡ stride_or g (extent g.leaves a) None)
     (λ r none some. let f : ⊥ = cc in absurd f)
     rows
     (none_found (has_elements g) rows e)

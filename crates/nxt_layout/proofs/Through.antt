@@ -9,8 +9,8 @@ use Rattle.nxt_layout.specs.declared.names.Names.{Names}
 use Rattle.nxt_layout.specs.declared.reach.OpenArray.{OpenArray}
 use Rattle.nxt_layout.specs.declared.spans.Span.{Span}
 use Rattle.nxt_layout.specs.Owners.{least_of}
-use Rattle.nxt_layout.specs.Rows.{Ground, elements_of}
-use Rattle.nxt_layout.specs.RowPasses.{Through, Opened, is_array_item, array_leaves, back_to, open_by, through_from, opened, with_number, rows_of, numbers_in, is_beyond, least, row_span, spans_from, places_in, through_by, Takes}
+use Rattle.nxt_layout.specs.Rows.{Ground, elements_of, is_beyond}
+use Rattle.nxt_layout.specs.RowPasses.{Through, Opened, is_array_item, array_leaves, back_to, open_by, through_from, opened, with_number, rows_of, numbers_in, least, row_span, spans_from, places_in, through_by, Takes}
 use Rattle.nxt_layout.proofs.Below.{spans_next}
 use Rattle.nxt_layout.proofs.Leading.{least_of_assoc, least-append}
 use Rattle.nxt_layout.proofs.Twice.{rows_few}

@@ -13,7 +13,7 @@ use Rattle.nxt_layout.specs.declared.fault.LayoutFault.{LayoutFault}
 use Rattle.nxt_layout.specs.declared.fault.LayoutFault.TheVariants.{TypeCode, TypeOpen, Depth, MutexInside, Place, Overlap, DefaultsShort, RowZero, RowIndex, RowShared, Stride, RowPlace, RowOverlap, PoolPassed, NoMemory}
 use Rattle.nxt_layout.specs.Leaves.{Site, Leaf, sites, sites_in, voids_stand_alone, AreShapes, leaves, leaf_of, end_of, is_outside, are_together, is_mutex}
 use Rattle.nxt_layout.specs.Dataspace.{default_end}
-use Rattle.nxt_layout.specs.Rows.{Ground, row, row_end, is_placed, is_strided, numbers_of, reached_through, reached, arrays_of, is_full}
+use Rattle.nxt_layout.specs.Rows.{Ground, row, row_end, is_placed, is_strided, is_beyond, numbers_of, reached_through, reached, arrays_of, is_full}
 use Rattle.nxt_layout.specs.Start.{ground, StartsAs, start_footprint}
 
 -- ---- the table
@@ -66,7 +66,7 @@ lacks_table p ss = some_list ss && not (has_table p.header (ground p ss))
 
 -- a row number of the entry is past the table's rows
 abbrev pub names_no_row : Ground → Leaf → Bool
-names_no_row g l = list_any (λ r. nat_le (row_count g.memory) r) (numbers_of g l)
+names_no_row g l = list_any (is_beyond g) (numbers_of g l)
 
 -- two lists name the row
 abbrev pub is_shared : Ground → ℕ → Bool

@@ -16,8 +16,8 @@ use Rattle.nxt_layout.specs.Dataspace.{dataspace, dynamic_bytes}
 use Rattle.nxt_layout.specs.Start.{StartsAs, file_rows, start_footprint}
 use Rattle.nxt_types.specs.Refusals.{IsAccepted}
 use Rattle.nxt_model.specs.Reading.{row_count}
-use Rattle.nxt_layout.specs.Rows.{Ground, is_placed}
-use Rattle.nxt_layout.specs.RowPasses.{Through, bare_ground, extent_in, array_leaves, through_from, all_rows, list_count, times, least, first_beyond, first_below, misstrided_in, is_full_in, full_bytes, first_spans, spans_of}
+use Rattle.nxt_layout.specs.Rows.{Ground, is_placed, is_full_in}
+use Rattle.nxt_layout.specs.RowPasses.{Through, bare_ground, extent_in, array_leaves, through_from, all_rows, list_count, times, least, first_beyond, first_below, misstrided_in, full_bytes, first_spans, spans_of}
 use Rattle.nxt_layout.specs.LayoutRules.{Broken, has_unknown_code, has_table}
 
 -- ---- layouts

@@ -11,9 +11,9 @@ use Rattle.nxt_layout.specs.declared.reach.ArrayRows.{ArrayRows}
 use Rattle.nxt_layout.specs.declared.reach.OpenArray.{OpenArray}
 use Rattle.nxt_layout.specs.declared.names.Names.{Names}
 use Rattle.nxt_layout.specs.declared.spans.Span.{Span}
-use Rattle.nxt_layout.specs.LeafPasses.{leaf_end, pair_or}
+use Rattle.nxt_layout.specs.LeafPasses.{leaf_end, pair_or, same_array}
 use Rattle.nxt_layout.specs.Owners.{least_of}
-use Rattle.nxt_layout.specs.Rows.{Ground, row, row_end, has_elements, is_strided_by, read_by, elements_of, names_row}
+use Rattle.nxt_layout.specs.Rows.{Ground, row, row_end, has_elements, stride_or, is_strided_by, read_by, elements_of, names_row, is_beyond}
 
 -- the bytes of a dataspace alone
 abbrev pub bare_ground : List ℕ → ℕ → ℕ → Ground
@@ -29,12 +29,8 @@ is_array_item _ = false
 abbrev pub array_leaves : List Leaf → List Leaf
 array_leaves ls = filter (λ l. is_array_item l.item) ls
 
-abbrev pub is_in : ℕ → Option ℕ → Bool
-is_in a None = false
-is_in a (Some b) = a == b
-
 abbrev pub wider : ℕ → ℕ → Leaf → ℕ
-wider a most l = if is_in a l.array then max most (leaf_end l) else most
+wider a most l = if same_array (Some a) l.array then max most (leaf_end l) else most
 
 -- the bytes of an array's element
 abbrev pub extent_in : List Leaf → ℕ → ℕ
@@ -61,9 +57,6 @@ rows_of g numbers = fold (with_number g) [] numbers
 -- the numbers at this place in elements
 abbrev pub numbers_in : Ground → ℕ → List ℕ → List ℕ
 numbers_in g place bases = map (λ base. u16_in g.memory.bytes (base + place)) bases
-
-abbrev pub is_beyond : Ground → ℕ → Bool
-is_beyond g n = nat_le (row_count g.memory) n
 
 -- ---- array by array
 
@@ -144,11 +137,7 @@ least (n ∷ ns) = least_of (Some n) (least ns)
 abbrev pub misstrided_in : Ground → Through → List ℕ
 misstrided_in g t = filter (λ r. not (is_strided_by g t.bytes t.rows r)) t.rows
 
--- the row is among these and has elements
-abbrev pub is_full_in : Ground → List ℕ → ℕ → Bool
-is_full_in g rows r = list_any (λ q. q == r) rows && has_elements g r
-
--- the same, where none, one or many are marked by row
+-- the same as is_full_in, where none, one or many are marked by row
 abbrev pub is_full_by : Ground → List ℕ → ℕ → Bool
 is_full_by g marks r = nat_lt 0 (slice_index marks r) && has_elements g r
 
@@ -169,10 +158,6 @@ abbrev pub full_bytes : Ground → (ℕ → Bool) → ℕ
 full_bytes g full = sum_below (λ r. if full r then row_bytes g r else 0) (row_count g.memory)
 
 -- the stride of an array: that of its first row with elements, or the bytes of its element
-abbrev pub stride_or : Ground → ℕ → Option ℕ → ℕ
-stride_or g bytes None = bytes
-stride_or g bytes (Some r) = (row g r).stride
-
 abbrev pub stride_in : Ground → Through → ℕ
 stride_in g t = stride_or g t.bytes (find (has_elements g) t.rows)
 

@@ -1,5 +1,5 @@
 -- The rows that a file's arrays name.
-use Rattle.std.specs.Prelude.{ℕ, zero, suc, ◌+◌, ◌*◌, Bool, true, false, ◌&&◌, ◌||◌, not, ◌==◌, nat_lt, nat_le, List, [], ◌∷◌, map, filter, flat_map, length}
+use Rattle.std.specs.Prelude.{ℕ, zero, suc, ◌+◌, ◌*◌, Bool, true, false, ◌&&◌, ◌||◌, not, ◌==◌, nat_lt, nat_le, List, [], ◌∷◌, map, filter, flat_map, length, Option, Some, None}
 use Rattle.std.specs.List.{list_all, list_any}
 use Rattle.nxt_types.specs.Shapes.{Shape, Array}
 use Rattle.nxt_model.specs.Reading.{Memory, DopeRow, dope_row, row_count, leaf_place, u16_in}
@@ -38,6 +38,11 @@ is_strided_by g bytes rows r =
 abbrev pub is_strided : Ground → ℕ → List ℕ → ℕ → Bool
 is_strided g a rows r = is_strided_by g (extent g.leaves a) rows r
 
+-- the stride of a row, or so many bytes where there is none
+abbrev pub stride_or : Ground → ℕ → Option ℕ → ℕ
+stride_or g bytes None = bytes
+stride_or g bytes (Some r) = (row g r).stride
+
 -- the places of a row's elements
 abbrev pub places_from : ℕ → ℕ → ℕ → List ℕ
 places_from at stride zero = []
@@ -51,6 +56,10 @@ elements_of g r = places_from (row g r).place (row g r).stride (row g r).count
 -- a number that names a row; 0 is an empty list
 abbrev pub names_row : Ground → ℕ → Bool
 names_row g r = nat_lt 0 r && nat_lt r (row_count g.memory)
+
+-- a number past the table's rows
+abbrev pub is_beyond : Ground → ℕ → Bool
+is_beyond g n = nat_le (row_count g.memory) n
 
 -- the row numbers of entry a in elements that stand at these places
 abbrev pub numbers_at : Ground → ℕ → List ℕ → List ℕ
@@ -91,6 +100,10 @@ arrays_of g = filter (λ l. is_array l.shape) g.leaves
 abbrev pub reached : Ground → List ℕ
 reached g = flat_map (reached_through g) (arrays_of g)
 
+-- the row is among these and has elements
+abbrev pub is_full_in : Ground → List ℕ → ℕ → Bool
+is_full_in g rows r = list_any (λ q. q == r) rows && has_elements g r
+
 -- the row is reached and has elements
 abbrev pub is_full : Ground → ℕ → Bool
-is_full g r = list_any (λ q. q == r) (reached g) && has_elements g r
+is_full g r = is_full_in g (reached g) r

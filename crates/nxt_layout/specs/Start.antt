@@ -8,21 +8,17 @@ use Rattle.nxt_model.specs.Footprint.{footprint, rows_for}
 use Rattle.nxt_model.specs.Reading.{HeldList, ReadsAs, row_count}
 use Rattle.nxt_layout.specs.Leaves.{Leaf, leaves, leaf_of, extent, AreShapes}
 use Rattle.nxt_layout.specs.Dataspace.{memory}
-use Rattle.nxt_layout.specs.Rows.{Ground, row, has_elements, reached_through}
+use Rattle.nxt_layout.specs.Rows.{Ground, has_elements, stride_or, reached_through}
 
 abbrev pub ground : Parts → Members → Ground
 ground p ss = record { memory = memory p ss; static_size = p.header.static_size; leaves = leaves p.toc ss }
 
 -- ---- strides
 
-abbrev pub stride_of_row : Ground → ℕ → Option ℕ → ℕ
-stride_of_row g a None = extent g.leaves a
-stride_of_row g a (Some r) = (row g r).stride
-
 -- the stride of the rows with elements that are reached through the entry, or else the extent of its element
 abbrev pub stride_through : Ground → Option Leaf → ℕ
 stride_through g None = 0
-stride_through g (Some l) = stride_of_row g l.entry (find (has_elements g) (reached_through g l))
+stride_through g (Some l) = stride_or g (extent g.leaves l.entry) (find (has_elements g) (reached_through g l))
 
 abbrev pub stride_of : Ground → ℕ → ℕ
 stride_of g a = stride_through g (leaf_of g.leaves a)

@@ -205,5 +205,6 @@ fn mutex_takes_four_bytes_of_defaults(rt: HostRuntime) -> Result<(), Fail> {
     assert_eq!(rt; layout.footprint(), 20);
     assert_eq!(rt; layout.toc().count(), 2);
     assert_eq!(rt; layout.toc().place(1), Some(4));
+    assert_eq!(rt; layout.toc().copied(alloc)?.place(1), Some(4));
     Ok(())
 }

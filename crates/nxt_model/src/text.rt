@@ -12,7 +12,7 @@ use std::alloc::Global;
 fn push_number(text: &mut Bytes, number: i64) -> Result<(), NoMemory>
     ensures { OnOk result (text.new ≡ text.old ++ 44 ∷ number_text number) }
 {
-    let digits = number.to_string(text.allocator())?;
+    let digits = number.to_string(*text.as_vec().allocator())?;
     text.append(b",")?;
     text.append(digits.as_bytes())
 }
@@ -209,6 +209,6 @@ pub fn line_text(line: &Line, into: &mut Bytes) -> Result<(), NoMemory>
     ensures ok { OnOk result (into.new ≡ into.old ++ text_of line.now) }
     ensures err { OnErr result (into.new ≡ into.old) }
 {
-    let text = text(into.allocator(), line)?;
+    let text = text(*into.as_vec().allocator(), line)?;
     into.append(text.as_slice())
 }

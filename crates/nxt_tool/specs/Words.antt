@@ -1,19 +1,16 @@
 -- The words of a command.
-use Rattle.std.specs.Prelude.{Bool, ◌&&◌, ℕ, List, [], ◌∷◌, map, codes, bytes_eq, Vec, Option, Some, None, if◌then◌else◌}
+use Rattle.std.specs.Prelude.{◌&&◌, ℕ, List, [], ◌∷◌, map, codes, bytes_eq, Vec, Option, Some, None, if◌then◌else◌}
 use Rattle.std.specs.declared.alloc.Global.{Global}
 use Rattle.nxt_tool.specs.declared.words.Command.{Command}
 use Rattle.nxt_tool.specs.declared.words.Command.TheVariants.{RunRxe, Check}
-
-abbrev pub given_by : {X : Type 0} → Bool → X → Option X
-given_by test x = if test then Some x else None
 
 -- `check` and a program's name; or `run`, `rxe`, a program's name and a script's name
 abbrev pub command_of : List (List ℕ) → Option Command
 command_of [] = None
 command_of (a ∷ []) = None
-command_of (a ∷ b ∷ []) = given_by (bytes_eq a (codes "check")) Check
+command_of (a ∷ b ∷ []) = if bytes_eq a (codes "check") then Some Check else None
 command_of (a ∷ b ∷ c ∷ []) = None
-command_of (a ∷ b ∷ c ∷ d ∷ []) = given_by (bytes_eq a (codes "run") && bytes_eq b (codes "rxe")) RunRxe
+command_of (a ∷ b ∷ c ∷ d ∷ []) = if bytes_eq a (codes "run") && bytes_eq b (codes "rxe") then Some RunRxe else None
 command_of (a ∷ b ∷ c ∷ d ∷ e ∷ more) = None
 
 -- where the names of files stand

@@ -2,7 +2,7 @@
 use Rattle.std.proofs.Common.{◌≡◌, ℕ, zero, suc, ◌+◌, ◌<◌, ◌≤◌, List, [], ◌∷◌, ◌++◌, refl, sym, ap, subst, arith, true, false, ◌⊎◌, inl, inr, lt-ltb, eq-eqb}
 use Rattle.std.proofs.lemmas.Bool.{cases_lt}
 use Rattle.std.proofs.lemmas.List.Sums.{sum_by-cons}
-use Rattle.std.specs.Prelude.{Bool, IsTrue, nat_lt, ◌||◌, ◌&&◌, ◌==◌, length, sum_by, slice_get, Option, Some}
+use Rattle.std.specs.Prelude.{Bool, IsTrue, nat_lt, ◌||◌, ◌&&◌, length, sum_by, slice_get, Some}
 use Rattle.std.specs.List.{AllByRecursion, list_any}
 use Rattle.nxt_types.specs.Refusals.{comes_first, IsRefusal, IsAccepted}
 

@@ -7,10 +7,9 @@ use Rattle.std.proofs.lemmas.List.{length-append, length-replicate}
 use Rattle.std.proofs.lemmas.Bool.{ltb-true}
 use Rattle.std.proofs.lemmas.Bool.Decides.{nat_tests}
 use Rattle.nxt_types.specs.Shapes.{Shape, Void, Number, Array, Cluster, Mutex, Members, no_members, member, tree}
-use Rattle.nxt_types.specs.Names.{Name, is_leaf, desc_of, place, size, sizes, name_in, name_among, below}
+use Rattle.nxt_types.specs.Names.{Name, size, sizes, name_in, name_among, below}
 use Rattle.nxt_types.specs.Tables.{outside_of, outside_among, trees_of, variables_behind}
 use Rattle.nxt_types.specs.declared.shape.Shape as seen
-use Rattle.nxt_types.specs.declared.shape.TocEntry.{TocEntry}
 
 abbrev flat : {X : Type 0} → Option (Option X) → Option X
 flat o = option_and_then (λ x. x) o
@@ -91,22 +90,6 @@ shape_there items ss i o e f =
     mapped None = refl
     mapped (Some None) = refl
     mapped (Some (Some s)) = refl
-
--- where it stands, if a shape is known to be there
-pub place_there : (entries : List TocEntry) (ss : Members) (i : ℕ) (s : Shape) → Some s ≡ shape_of (name_among ss 0 i) →
-    place entries ss i ≡ (if is_leaf s then desc_of (slice_get entries i) else None)
-place_there entries ss i s e = at (name_among ss 0 i) e
-  where
-    at : (o : Option Name) → Some s ≡ shape_of o → option_and_then (λ n. if is_leaf n.shape then desc_of (slice_get entries i) else None) o ≡ (if is_leaf s then desc_of (slice_get entries i) else None)
-    at None e = cc
-    at (Some n) e = let f : s ≡ n.shape = cc in rw f refl
-
-pub place_nowhere : (entries : List TocEntry) (ss : Members) (i : ℕ) → None ≡ shape_of (name_among ss 0 i) → place entries ss i ≡ None
-place_nowhere entries ss i e = at (name_among ss 0 i) e
-  where
-    at : (o : Option Name) → None ≡ shape_of o → option_and_then (λ n. if is_leaf n.shape then desc_of (slice_get entries i) else None) o ≡ None
-    at None e = refl
-    at (Some n) e = cc
 
 pub copied_tree : (r : Option (Bor seen.Shape)) → option_map (λ s. tree s.now) r ≡ option_map tree (option_copied r)
 copied_tree None = refl

@@ -1,8 +1,8 @@
 -- The tree of a group in the program.
-use Rattle.std.proofs.Common.{◌≡◌, ℕ, List, [], ◌∷◌, refl, sym, ap, ◌∙◌, Vec, Global}
+use Rattle.std.proofs.Common.{◌≡◌, refl, ap, ◌∙◌, Vec, Global}
 use Rattle.std.specs.Prelude.{map}
 use mathlib.Core.Former.{Count}
-use Rattle.nxt_types.specs.Shapes.{Cluster, Members, member, members, cluster_of, tree, trees}
+use Rattle.nxt_types.specs.Shapes.{Cluster, member, members, cluster_of, tree, trees}
 use Rattle.nxt_types.specs.declared.shape.Shape.{Shape, Group, Group', Row_of-Shape, end_of-Shape, more_of-Shape, items-the_row-Shape, items_hidden-the_row-Shape-0}
 
 trees_are : (n : _) (row : Row_of-Shape n) → trees row ≡ members (map tree (items-the_row-Shape n row))

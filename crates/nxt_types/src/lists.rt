@@ -77,9 +77,11 @@ impl<T: Drop> ListOf<T> {
         self.items.clear();
     }
 
-    /// The allocator that the list grows with.
-    pub fn allocator(&self) -> Global {
-        *self.items.allocator()
+    /// The items with the allocator that they grow with.
+    pub fn as_vec(&self) -> &Vec<T>
+        ensures { result.now.items ≡ self.now }
+    {
+        &self.items
     }
 }
 

@@ -59,6 +59,21 @@ fn copies_of(alloc: Global, shapes: &[Shape]) -> Result<Vec<Shape>, NoMemory>
     Ok(copies)
 }
 
+// The same shapes by entry once more.
+fn outside_copies(alloc: Global, shapes: &[Option<Shape>]) -> Result<Vec<Option<Shape>>, NoMemory>
+    ensures { IfOk result (λ copies. trees_of copies.items ≡ trees_of shapes.now) }
+{
+    let mut copies = Vec::new(alloc);
+    for shape in shapes {
+        let copy = match shape {
+            Some(shape) => Some(copy_of(alloc, shape)?),
+            None => None,
+        };
+        copies.push(copy)?;
+    }
+    Ok(copies)
+}
+
 /// Whether it is a number, a list or a mutex.
 pub fn is_leaf(shape: &Shape) -> bool
     ensures { result ≡ is_leaf_shape (tree shape.now) }
@@ -133,6 +148,16 @@ impl Toc {
         } else {
             None
         }
+    }
+
+    /// The same table once more.
+    pub fn copied(&self, alloc: Global) -> Result<Toc, NoMemory>
+        ensures { IfOk result (λ toc. toc ≡ self.now) }
+    {
+        let mut entries = Entries::new(alloc);
+        entries.append(self.entries.as_slice())?;
+        let shapes = outside_copies(alloc, self.shapes.as_slice())?;
+        Ok(Toc { entries, shapes })
     }
 
     /// The entries in order.

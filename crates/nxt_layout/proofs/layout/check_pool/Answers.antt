@@ -5,8 +5,8 @@ use Rattle.nxt_rxe.specs.declared.parts.Parts.{Parts}
 use Rattle.nxt_model.specs.Footprint.{round4, pool_size}
 use Rattle.nxt_layout.specs.declared.fault.LayoutFault.TheVariants.{PoolPassed}
 use Rattle.nxt_layout.specs.declared.reach.ArrayRows.{ArrayRows}
-use Rattle.nxt_layout.specs.Rows.{Ground}
-use Rattle.nxt_layout.specs.RowPasses.{ground_of, through, all_rows, list_count, full_bytes, is_full_by, is_full_in, IsMarked}
+use Rattle.nxt_layout.specs.Rows.{Ground, is_full_in}
+use Rattle.nxt_layout.specs.RowPasses.{ground_of, through, all_rows, list_count, full_bytes, is_full_by, IsMarked}
 use Rattle.nxt_layout.specs.Layouts.{ground_in, arrays_in, rows_in_file, size_of_start, pool_fault}
 use Rattle.nxt_layout.proofs.Below.{marked_bytes}
 use Rattle.nxt_layout.proofs.layout.check_pool.Goals as goal

@@ -1,5 +1,5 @@
 -- Groups convert by their members, of which there must be as many.
-use Rattle.std.proofs.Common.{◌≡◌, ◌≢◌, ◌∙◌, List, [], ◌∷◌, length, suc, Bool, true, false, ◌&&◌, ap, sym, refl, map, arith}
+use Rattle.std.proofs.Common.{◌≡◌, ◌≢◌, ◌∙◌, List, [], ◌∷◌, length, suc, Bool, true, false, ◌&&◌, ap, sym, refl, map}
 use Rattle.std.proofs.lemmas.List.{length-map}
 use Rattle.nxt_types.specs.Shapes.{Shape, tree, members, cluster_of, convertible, convertible_members}
 use Rattle.nxt_types.proofs.TreeLemmas.{trees_hidden}
