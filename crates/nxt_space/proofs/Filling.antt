@@ -152,7 +152,7 @@ lists_of s n zs = lists_among (many n (filled s) zs).0
 abbrev pub bytes_of_lists : Shape → ℕ → List ℤ → ℕ
 bytes_of_lists s n zs = sum_by (list_bytes s) (items (many n (filled s) zs).0)
 
-items_many : (next : List ℤ → Front) (n : ℕ) (zs : List ℤ) → length (items (many n next zs).0) ≡ n
+pub items_many : (next : List ℤ → Front) (n : ℕ) (zs : List ℤ) → length (items (many n next zs).0) ≡ n
 items_many next zero zs = refl
 items_many next (suc n) zs = let e = items_many next n (next zs).1 in omega (arith, e)
 

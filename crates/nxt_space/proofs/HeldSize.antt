@@ -189,10 +189,10 @@ own_once r (x ∷ xs) own =
     one_counted (x == r) (tally (is_it r) xs) rest
     (λ t. none_counted (is_it r) xs (subst (λ q. list_any (is_it q) xs ≡ false) (eqb-true x r t) gone))
 
-own_below : (w : ℕ → ℕ) (n : ℕ) (xs : List ℕ) → AllPairs (λ a b. a ≢ b) xs → Each (λ x. x < n) xs → sum_by w xs ≡ sum_below (λ r. cond (list_any (is_it r) xs) (w r) 0) n
+pub own_below : (w : ℕ → ℕ) (n : ℕ) (xs : List ℕ) → AllPairs (λ a b. a ≢ b) xs → Each (λ x. x < n) xs → sum_by w xs ≡ sum_below (λ r. cond (list_any (is_it r) xs) (w r) 0) n
 own_below w n xs own less = total_is w xs ∙ once_below w n xs (λ r. own_once r xs own) less
 
-below_listed : {X : Type 0} (w : X → ℕ) (xs : List X) (d : X) (n : ℕ) → n ≤ length xs → sum_below (λ r. w (get_or xs r d)) n ≡ sum_by w (take n xs)
+pub below_listed : {X : Type 0} (w : X → ℕ) (xs : List X) (d : X) (n : ℕ) → n ≤ length xs → sum_below (λ r. w (get_or xs r d)) n ≡ sum_by w (take n xs)
 below_listed w xs d zero h = refl
 below_listed w xs d (suc n) h =
     let more : sum_by w (take (suc n) xs) ≡ sum_by w (take (n + 1) xs) =
@@ -278,7 +278,7 @@ held_footprint table ss h e =
     (λ n. round4 (length h.static_bytes) + round4 (10 * length h.by_row) + n)
     (sym (lists_sized table ss h e ∙ rows_sized table ss h e))
 
-sum_one : (xs : List ℕ) → sum_by (λ x. 1) xs ≡ length xs
+pub sum_one : (xs : List ℕ) → sum_by (λ x. 1) xs ≡ length xs
 sum_one [] = refl
 sum_one (x ∷ xs) = omega (arith, sum_by-cons (λ (y : ℕ). 1) x xs, sum_one xs)
 

@@ -1,6 +1,13 @@
+mod HeldRows
+mod SpotsRows
+pub mod Accepted
+pub mod Begins
 pub mod Begun
+pub mod ByteLists
+pub mod Counting
 pub mod EachPairs
 pub mod Emptied
+pub mod FileReads
 pub mod FilledLaws
 pub mod Filling
 pub mod FillingSteps
@@ -10,14 +17,24 @@ pub mod Gathering
 pub mod GroupTree
 pub mod Growing
 pub mod HeldOf
-mod HeldRows
 pub mod HeldSize
+pub mod Keeping
+pub mod LeafSpots
+pub mod Lengths
 pub mod MembersFreed
+pub mod NamedParts
 pub mod Needs
 pub mod Opening
+pub mod PartBounds
+pub mod PartPlaces
+pub mod PartSizes
 pub mod Putting
+pub mod Replaced
 pub mod Replacing
+pub mod SpentRows
+pub mod Standing
+pub mod StartFilled
 pub mod Stored
-mod SpotsRows
 pub mod StoredHeld
+pub mod Walked
 pub mod Without

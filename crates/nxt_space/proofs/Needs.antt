@@ -16,7 +16,7 @@ use Rattle.nxt_space.proofs.HeldSize.{alive_within}
 use Rattle.nxt_space.proofs.Putting.{length-put}
 use Rattle.nxt_space.proofs.Without.{block_size}
 
-abbrev bit : Option ByteList → ℕ
+abbrev pub bit : Option ByteList → ℕ
 bit o = cond (is_some o) 1 0
 
 -- ---- rows

@@ -1,6 +1,6 @@
 -- A worked table: a cluster of a number and of a list of lists.
-use Rattle.std.proofs.Common.{◌≡◌, ℕ, List, [], ◌∷◌, ◌⊎◌, inl, inr, refl, arith}
-use Rattle.std.specs.Prelude.{ℤ, pos, negsuc}
+use Rattle.std.proofs.Common.{◌≡◌, ℕ, List, [], ◌∷◌, inr, refl, arith}
+use Rattle.std.specs.Prelude.{pos, negsuc}
 use Rattle.nxt_types.specs.Shapes.{Members, no_members, member, Number, Array, Cluster}
 use Rattle.nxt_types.specs.declared.kind.Kind.TheVariants.{Ubyte}
 use Rattle.nxt_types.specs.declared.shape.TocEntry.{TocEntry}

@@ -1,5 +1,9 @@
 pub mod Fills
 pub mod Held
 pub mod Homes
+pub mod Kept
+pub mod Sizes
 pub mod Spots
+pub mod Starts
+pub mod Variables
 pub mod Writes

@@ -1,5 +1,15 @@
 //! The variables of a program in the pool (LEGO MINDSTORMS NXT Executable File Specification, "Dataspace", "Dope Vectors").
 #![tactic(auto)]
 
+mod holding;
+pub mod path;
 mod reading;
+mod sizing;
+pub mod space;
+mod starting;
 mod writing;
+
+pub use holding::Flat;
+pub use nxt_heap::PoolPassed;
+pub use path::Path;
+pub use space::Space;

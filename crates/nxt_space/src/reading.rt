@@ -1,6 +1,6 @@
 // Values that are read from the heap.
 
-ghost use Rattle.std.specs.Prelude.{◌≡◌, ◌<◌, ◌≤◌, ◌+◌, ◌^◌, ◌++◌, OnOk, length, drop, take, slice_index, map};
+ghost use Rattle.std.specs.Prelude.{◌≡◌, ◌<◌, ◌≤◌, ◌+◌, ◌^◌, ◌++◌, OnOk, length, drop, take, slice_index, slice_get, map};
 ghost use Rattle.std.specs.Int.{from_le_bytes};
 ghost use Rattle.nxt_types.specs.Arithmetic.{leaf_size as size_of_leaf, width_of};
 ghost use Rattle.nxt_types.specs.Shapes.{tree, members};
@@ -8,7 +8,7 @@ ghost use Rattle.nxt_types.specs.Names.{size, sizes};
 ghost use Rattle.nxt_model.specs.Values.{values, flat, flats};
 ghost use Rattle.nxt_model.specs.Footprint.{pool_size};
 ghost use Rattle.nxt_model.specs.Means.Text.{number_in};
-ghost use Rattle.nxt_model.specs.Reading.{u16_in};
+ghost use Rattle.nxt_model.specs.Reading.{desc_of, u16_in};
 ghost use Rattle.nxt_heap.specs.Lists.{footprint};
 ghost use Rattle.nxt_space.specs.Homes.{bytes_in, IsHome, value_there, values_there, HoldsThere, HoldAllThere};
 ghost use Rattle.nxt_space.specs.Held.{leaf_place as place_of};
@@ -87,15 +87,22 @@ pub fn number_at(heap: &Heap, home: Home, at: u32, kind: Kind) -> i64
     extend(kind, word_at(heap, home, at, kind))
 }
 
+/// The `desc` of an entry; 0 where there is no entry.
+pub fn desc_at(entries: &[TocEntry], entry: u16) -> u16
+    ensures { result ≡ desc_of (slice_get entries.now entry) }
+{
+    match entries.get(entry as usize) {
+        Some(entry) => entry.desc,
+        None => 0,
+    }
+}
+
 /// Where an entry's leaf stands in an element at `base`, or where `base` is 0 outside of all elements.
 pub fn leaf_place(entries: &[TocEntry], entry: u16, base: u32) -> u32
     requires { place_of entries.now entry base < 2 ^ 32 }
     ensures { result ≡ place_of entries.now entry base }
 {
-    match entries.get(entry as usize) {
-        Some(entry) => base + u32::from(entry.desc),
-        None => base,
-    }
+    base + u32::from(desc_at(entries, entry))
 }
 
 /// How many entries spell a shape.

@@ -133,8 +133,8 @@ fn first_number(from: &[i64]) -> i64
     }
 }
 
-// The first of the numbers as a count.
-fn first_count(from: &[i64]) -> u64
+/// The first of the numbers as a count; a missing one is 0.
+pub fn first_count(from: &[i64]) -> u64
     ensures { result ≡ nat_abs (first_of from.now) }
 {
     first_number(from).unsigned_abs()
@@ -150,8 +150,8 @@ fn set_first(heap: &mut Heap, home: Home, at: u32, kind: Kind, from: &[i64])
     set_number(heap, home, at, kind, first_number(from));
 }
 
-// The numbers behind the first.
-fn behind(from: &[i64]) -> &[i64]
+/// The numbers behind the first.
+pub fn behind(from: &[i64]) -> &[i64]
     ensures { result.now ≡ drop 1 from.now }
 {
     if from.is_empty() { from } else { &from[1..] }
