@@ -9,9 +9,9 @@ mod clumps;
 mod code;
 pub mod fault;
 mod jumps;
-mod operands;
+pub mod operands;
 mod shapes;
-mod statements;
+pub mod statements;
 
 pub use code::{Code, check_code};
 pub use fault::CodeFault;

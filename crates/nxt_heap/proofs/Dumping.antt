@@ -11,7 +11,7 @@ use Rattle.nxt_heap.proofs.Places.{le-round4, same_window, le-row_block, end_of-
 pub length-dump : (pool : List ℕ) (table : ℕ) → IsDense pool table → length (take (end_of pool table) pool) ≡ end_of pool table
 length-dump pool table d = omega (arith, length-take (end_of pool table) pool, d.fits, d.size)
 
-dump_row : (pool : List ℕ) (table r : ℕ) → IsDense pool table → r < row_count pool table
+pub dump_row : (pool : List ℕ) (table r : ℕ) → IsDense pool table → r < row_count pool table
     → dope_row (take (end_of pool table) pool) table r ≡ dope_row pool table r
 dump_row pool table r d within =
     dope_row-kept pool (take (end_of pool table) pool) table r (λ k low high.

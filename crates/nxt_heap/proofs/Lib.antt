@@ -1,4 +1,5 @@
 pub mod Changes
+pub mod Dumped
 pub mod Dumping
 pub mod Freeing
 pub mod Growing

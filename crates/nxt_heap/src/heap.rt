@@ -1,5 +1,6 @@
 ghost use Rattle.std.specs.Prelude.{◌≡◌, ◌+◌, ◌*◌, ◌<◌, ◌≤◌, ℕ, length, slice_index, slice_set, OnOk, OnErr, IfErr, IfOk, IsTrue, ◌%◌, None};
 ghost use Rattle.nxt_model.specs.Footprint.{round4 as rounded, pool_size};
+ghost use Rattle.nxt_heap.specs.Dumps.{HoldHeap};
 ghost use Rattle.nxt_heap.specs.Lists.{IsAlive, list_at, stride_at, bytes_at, table_of, footprint, Passes, IsFree, with_free, with_free_row, empty_list, zero_heap, with_list, with_length, with_byte};
 ghost use Rattle.nxt_heap.specs.Pool.{Shows, state_of, IsHeap};
 
@@ -167,6 +168,7 @@ impl Heap {
     /// The pool from its first byte to the end of the last block. Its rows read as the lists.
     pub fn dump(&self, alloc: Global) -> Result<Bytes, NoMemory>
         ensures shows { IfOk result (λ bytes. Shows bytes (table_of self.now) self.now) }
+        ensures holds { IfOk result (λ bytes. HoldHeap bytes (table_of self.now) self.now) }
         ensures length { IfOk result (λ bytes. length bytes ≡ footprint self.now) }
     {
         let mut bytes = Bytes::new(alloc);

@@ -58,7 +58,7 @@ found_behind : (k : ℕ) (before left : Members) → shape_of (name_among (joine
 found_behind k no_members left = head_here k left
 found_behind k (member s ss) left = ap shape_of (behind_one k (sizes ss) s (joined ss left)) ∙ found_behind (k + 1) ss left
 
-joined-none : (ss : Members) → joined ss no_members ≡ ss
+pub joined-none : (ss : Members) → joined ss no_members ≡ ss
 joined-none no_members = refl
 joined-none (member s ss) = ap (member s) (joined-none ss)
 
@@ -66,7 +66,7 @@ joined_assoc : (ss ts us : Members) → joined (joined ss ts) us ≡ joined ss (
 joined_assoc no_members ts us = refl
 joined_assoc (member s ss) ts us = ap (member s) (joined_assoc ss ts us)
 
-sizes-joined : (ss ts : Members) → sizes (joined ss ts) ≡ sizes ss + sizes ts
+pub sizes-joined : (ss ts : Members) → sizes (joined ss ts) ≡ sizes ss + sizes ts
 sizes-joined no_members ts = omega arith
 sizes-joined (member s ss) ts = omega (arith, sizes-joined ss ts)
 

@@ -2,6 +2,7 @@ pub mod Fills
 pub mod Held
 pub mod Homes
 pub mod Kept
+pub mod Outcomes
 pub mod Sizes
 pub mod Spots
 pub mod Starts

@@ -1,12 +1,13 @@
 -- The variables of a program, as the calls of `Space` see them.
-use Rattle.std.specs.Prelude.{◌≡◌, ◌≤◌, ◌<◌, ℕ, ◌+◌, true, ◌-◌, ◌*◌, max, List, [], ◌∷◌, map, length, ℤ, pos, nat_abs, slice_index_or, Option, Some, None, IsSome, Ok, Err}
+use Rattle.std.specs.Prelude.{◌≡◌, ◌≤◌, ◌<◌, ℕ, ◌+◌, true, ◌-◌, ◌*◌, ◌^◌, max, List, [], ◌∷◌, map, length, ℤ, pos, nat_abs, slice_index_or, Option, Some, None, IsSome, Ok, Err}
 use Rattle.std.specs.declared.result.Result.{Result}
 use Rattle.nxt_types.specs.Arithmetic.{extend}
 use Rattle.nxt_types.specs.declared.kind.Kind.TheVariants.{Ubyte}
-use Rattle.nxt_types.specs.Shapes.{Shape, Void, Array, Cluster, Members}
+use Rattle.nxt_types.specs.Shapes.{Shape, Void, Number, Array, Cluster, Mutex, Members, no_members, member}
 use Rattle.nxt_types.specs.Names.{Name, name_among}
 use Rattle.nxt_types.specs.declared.shape.TocEntry.{TocEntry}
 use Rattle.nxt_model.specs.Values.{Value, Num, list_of, elements, part, with_part, is_of, lists_in}
+use Rattle.nxt_model.specs.Reading.{HeldList, ReadsAs}
 use Rattle.nxt_model.specs.Footprint.{footprint, rows_for, round4, list_bytes, pool_size}
 use Rattle.nxt_heap.specs.declared.passed.PoolPassed.{PoolPassed}
 use Rattle.nxt_layout.specs.Layouts.{FileLayout}
@@ -104,8 +105,28 @@ abbrev pub Becomes : Variables → Variables → Result Unit PoolPassed → Vari
 Becomes old next (Ok x) new = (footprint_of next ≤ pool_size) × (new ≡ next)
 Becomes old next (Err e) new = (pool_size < footprint_of next) × (e.0 ≡ footprint_of next) × (new ≡ old)
 
+-- the bytes of a pool read as the variables, in which these lists stand
+abbrev pub ReadsAsPool : Variables → List ℕ → Type 0
+ReadsAsPool s bytes =
+    (lists : List HeldList)
+    × ReadsAs (record { entries = s.entries; bytes = bytes; table = round4 s.static_size }) s.shapes s.values lists
+
+-- the elements of each list are at least 1 and fewer than 2^16 bytes apart
+abbrev mutual
+  pub HasStrides : Shape → Type 0
+  HasStrides Void = Unit {0}
+  HasStrides (Number k) = Unit {0}
+  HasStrides (Array stride s) = (1 ≤ stride) × (stride < 2 ^ 16) × HasStrides s
+  HasStrides (Cluster ss) = AllHaveStrides ss
+  HasStrides Mutex = Unit {0}
+
+  pub AllHaveStrides : Members → Type 0
+  AllHaveStrides no_members = Unit {0}
+  AllHaveStrides (member s ss) = HasStrides s × AllHaveStrides ss
+
 -- the values have their shapes, and each list has a row
 pub record AreSound (s : Variables) : Type 0 where
+  pub strides : AllHaveStrides s.shapes
   pub shapes : is_of (Cluster s.shapes) s.values ≡ true
   pub rows : lists_in s.values < s.rows
   pub pool : footprint_of s ≤ pool_size

@@ -1,6 +1,7 @@
 //! The variables of a program in the pool (LEGO MINDSTORMS NXT Executable File Specification, "Dataspace", "Dope Vectors").
 #![tactic(auto)]
 
+pub mod fault;
 mod holding;
 pub mod path;
 mod reading;
@@ -9,7 +10,11 @@ pub mod space;
 mod starting;
 mod writing;
 
+pub use fault::OpFault;
 pub use holding::Flat;
 pub use nxt_heap::PoolPassed;
 pub use path::Path;
 pub use space::Space;
+
+#[cfg(test)]
+mod tests;

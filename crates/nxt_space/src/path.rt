@@ -78,3 +78,6 @@ fn element_at(
         base: k as u32 * stride,
     }
 }
+
+#[cfg(test)]
+pub mod tests;

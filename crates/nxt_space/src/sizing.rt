@@ -147,3 +147,6 @@ pub fn spelled_sizes<'a>(shapes: &[Shape], from: &'a [i64]) -> (Size, &'a [i64])
     }
     (sum, left)
 }
+
+#[cfg(test)]
+pub mod tests;

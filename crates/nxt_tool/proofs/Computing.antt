@@ -9,7 +9,7 @@ use Rattle.nxt_types.specs.declared.instr.Op.{Op}
 use Rattle.nxt_types.specs.declared.instr.Op.TheVariants as ops
 use Rattle.nxt_types.specs.Arithmetic.{compare, arith as word_by, word}
 use Rattle.nxt_types.specs.Names.{named}
-use Rattle.nxt_types.specs.Statements.{statement}
+use Rattle.nxt_types.specs.Statements.{Statement, statement}
 use Rattle.nxt_model.specs.Devices.{Devices, set_property}
 use Rattle.nxt_model.specs.SystemCalls.{Clock}
 use Rattle.nxt_model.specs.Values.{Value, Num, number}
@@ -17,6 +17,7 @@ use Rattle.nxt_model.specs.Means.Effects.{Operand, value_of}
 use Rattle.nxt_model.specs.Means.{means, operand_at}
 use Rattle.nxt_model.specs.Variables.{Reference, Plain, Target, Absent, part_of, read, put_all}
 use Rattle.nxt_model.specs.Step.{stops_at}
+use Rattle.nxt_tool.specs.First.{is_first}
 use Rattle.nxt_tool.specs.Numbers.{shapes_of, vars_of, references_of, operands_of, effect_of, values_after, variable_in, variable_at, number_of, signed_of, with_number, with_pairs, halts_by}
 use Rattle.nxt_tool.proofs.Named.{reference, named_number, number_read, number_stored}
 
@@ -108,6 +109,28 @@ module _ (ks : List Kind) (zs : List ℤ) (cmp : Cmp) (d : Devices) (t : Clock) 
 
   pub brcmp_jumps : (args : List ℕ) → (effect_of ks zs (statement ops.Brcmp cmp args) d t).jumps ≡ compare cmp (signed_of ks (variable_at ks args 1) || signed_of ks (variable_at ks args 2)) (number_of zs (variable_at ks args 1)) (number_of zs (variable_at ks args 2))
   brcmp_jumps args = brcmp_on args ∙ brcmp_by (variable_at ks args 1) (variable_at ks args 2)
+
+-- ---- statements that change nothing
+
+-- no value and no device changes, and the next statement follows
+pub record IsStill (ks : List Kind) (zs : List ℤ) (s : Statement) (d : Devices) (t : Clock) : Type 0 where
+  pub values : values_after ks zs s d t ≡ vars_of zs
+  pub devices : (effect_of ks zs s d t).devices ≡ d
+  pub jumps : (effect_of ks zs s d t).jumps ≡ false
+  pub lines : (effect_of ks zs s d t).lines ≡ []
+
+-- the first statements but six
+pub still : (op : Op) → is_first op ≡ true → (op ≡ ops.Add → ⊥) → (op ≡ ops.Mov → ⊥) → (op ≡ ops.Set → ⊥) → (op ≡ ops.Jmp → ⊥) → (op ≡ ops.Brcmp → ⊥) → (op ≡ ops.Setout → ⊥) →
+    (ks : List Kind) (zs : List ℤ) (cmp : Cmp) (args : List ℕ) (d : Devices) (t : Clock) → IsStill ks zs (statement op cmp args) d t
+still ops.Stop e a m s j b o ks zs cmp args d t = record { values = refl; devices = refl; jumps = refl; lines = refl }
+still ops.Finclump e a m s j b o ks zs cmp args d t = record { values = refl; devices = refl; jumps = refl; lines = refl }
+still ops.Add e a m s j b o ks zs cmp args d t = absurd (a refl)
+still ops.Mov e a m s j b o ks zs cmp args d t = absurd (m refl)
+still ops.Set e a m s j b o ks zs cmp args d t = absurd (s refl)
+still ops.Jmp e a m s j b o ks zs cmp args d t = absurd (j refl)
+still ops.Brcmp e a m s j b o ks zs cmp args d t = absurd (b refl)
+still ops.Setout e a m s j b o ks zs cmp args d t = absurd (o refl)
+still _ e a m s j b o ks zs cmp args d t = absurd (let f : ⊥ = cc in f)
 
 -- ---- stop
 

@@ -23,7 +23,7 @@ abbrev pub reference : List Kind → Option ℕ → Reference
 reference ks None = Absent
 reference ks (Some i) = PartOf (number_name ks i)
 
-among : (ks : List Kind) (k i : ℕ) → i < length ks → name_among (shapes_of ks) k i ≡ Some (record { path = (k + i) ∷ []; shape = Number (get_or ks i Ubyte) })
+pub among : (ks : List Kind) (k i : ℕ) → i < length ks → name_among (shapes_of ks) k i ≡ Some (record { path = (k + i) ∷ []; shape = Number (get_or ks i Ubyte) })
 among [] k i h = let f : ⊥ = omega (arith, h) in absurd f
 among (a ∷ ks) k zero h = let e : k ≡ k + 0 = omega arith in ap (λ n. Some (record { path = n ∷ []; shape = Number a })) e
 among (a ∷ ks) k (suc i) h =

@@ -1,5 +1,5 @@
 -- What the top call's statuses say of the due answer.
-use Rattle.std.proofs.Common.{◌≡◌, ℕ, ◌<◌, List, [], Option, Some, None, true, false, refl, sym, ap, subst, arith, length, Bool, inl, inr, ◌⊎◌, map, ◌≤◌}
+use Rattle.std.proofs.Common.{◌≡◌, ℕ, ◌<◌, List, [], Option, Some, true, false, refl, sym, ap, subst, arith, length, Bool, inl, inr, ◌⊎◌, map, ◌≤◌}
 use Rattle.std.specs.Prelude.{IfSome, nat_lt, if◌then◌else◌}
 use Rattle.std.specs.Io.KnownBytes.{Appends}
 use Rattle.std.proofs.lemmas.Bool.Decides.{nat_tests}
@@ -11,8 +11,8 @@ use Rattle.nxt_model.specs.Image.{Image}
 use Rattle.nxt_tool.specs.Due.{Answer, answer, Meets, RunOn, answer_to, answer_given, read_status, write_status, refused_answer, sound_answer, OfFile, Run, CheckFile, CheckOf, DueTo, Due, Answers}
 use Rattle.nxt_tool.specs.declared.words.Command.{Command}
 use Rattle.nxt_tool.specs.Words.{command_of}
-use Rattle.nxt_tool.specs.Accepted.{BreaksNone, IsSound, IsSoundFile, IsAcceptedAs, IsRefused, BreaksRule, code_in}
-use Rattle.nxt_tool.specs.FirstFile.{image_in}
+use Rattle.nxt_tool.specs.First.{runs}
+use Rattle.nxt_tool.specs.Accepted.{BreaksNone, IsRun, IsSound, IsSoundFile, IsAcceptedAs, IsRefused, BreaksRule, code_in, image_of}
 use Rattle.nxt_tool.specs.declared.accept.Refusal.{Refusal}
 use Rattle.nxt_tool.specs.declared.accept.Refusal.TheVariants as refusals
 use Rattle.nxt_types.specs.Refusals.{IsRefusal, IsAccepted}
@@ -124,20 +124,36 @@ pub accepted_run : (program script : List ℕ) (image : Image) (a : Answer) → 
 accepted_run program script image a few accepted on =
     within_by (nat_lt 262144 (length program)) a _ (short_program program few) (inr (image, accepted, on))
 
+-- the variables of an accepted file start with some values
+some_start : (p : Parts) (ss : Members) → IsAccepted (layout_rules.Broken p) → HasShapes p ss → (vars : Value) × StartsAs p ss vars
+some_start p ss accepted h =
+    let rules : KeepsRows p = record {
+      index = λ e. accepted (RowIndex e);
+      shared = λ r. accepted (RowShared r);
+      stride = λ r. accepted (Stride r);
+      placed = λ r. accepted (RowPlace r);
+      apart = λ q r. accepted (RowOverlap q r);
+    } in
+    let vars = group_of (values_among (ground p h.plain) h.plain 0 0) in
+    (vars, subst (λ qs. StartsAs p qs vars) (sym h.strides) (found_start p h.plain h.shapes (λ e. accepted (Place e)) rules))
+
 abbrev OnProgram : List ℕ → List ℕ → Type 0
 OnProgram program script = (a : Answer) × OfFile program (λ image. RunOn image script) a
 
-by_image : (program script : List ℕ) (p : Parts) (ss : Members) (o : Option Image) → IsFile program p → BreaksNone p ss → image_in p ≡ o → OnProgram program script
-by_image program script p ss None file sound e = (refused_answer refusals.Unbuilt, inl (refusals.Unbuilt, (p, file, (ss, sound, e)), refl))
-by_image program script p ss (Some image) file sound e =
-    (answer_to image script, inr (image, record { parts = p; file = file; shapes = ss; sound = sound; image_is = e }, run_on image script))
+by_test : (program script : List ℕ) (p : Parts) (ss : Members) (b : Bool) → IsFile program p → BreaksNone p ss → runs p ss ≡ b → OnProgram program script
+by_test program script p ss false file sound e = (refused_answer refusals.Unbuilt, inl (refusals.Unbuilt, (p, file, (ss, sound, e)), refl))
+by_test program script p ss true file sound e =
+    let start = some_start p ss sound.layout sound.shapes in
+    let image = image_of p ss start.0 in
+    let run : IsRun p image = record { shapes = ss; sound = sound; vars = start.0; starts = start.1; runs = e; image_is = refl } in
+    (answer_to image script, inr (image, (p, file, run), run_on image script))
 
 by_code : (program script : List ℕ) (p : Parts) (ss : Members) → IsFile program p → IsAccepted (layout_rules.Broken p) → HasShapes p ss →
     ((f : CodeFault) × IsRefusal (code_rules.Broken (code_in p ss)) code_rules.rank f) ⊎ IsAccepted (code_rules.Broken (code_in p ss)) → OnProgram program script
 by_code program script p ss file layout shapes (inl found) =
     (refused_answer (refusals.Code found.0), inl (refusals.Code found.0, (p, file, (layout, ss, shapes, found.1)), refl))
 by_code program script p ss file layout shapes (inr code) =
-    by_image program script p ss (image_in p) file (record { layout = layout; shapes = shapes; code = code }) refl
+    by_test program script p ss (runs p ss) file (record { layout = layout; shapes = shapes; code = code }) refl
 
 by_layout : (program script : List ℕ) (p : Parts) → IsFile program p → ((f : LayoutFault) × IsRefusal (layout_rules.Broken p) layout_rules.rank f) ⊎ (IsAccepted (layout_rules.Broken p) × (ss : Members) × HasShapes p ss) → OnProgram program script
 by_layout program script p file (inl found) = (refused_answer (refusals.Layout found.0), inl (refusals.Layout found.0, (p, file, found.1), refl))
@@ -199,19 +215,6 @@ refused_check program r few broken =
 pub sound_check : (program : List ℕ) (size : ℕ) → length program ≤ 262144 → IsSoundFile program size → CheckOf program (sound_answer size)
 sound_check program size few sound =
     within_by (nat_lt 262144 (length program)) (sound_answer size) _ (short_program program few) (inr (size, sound, refl))
-
--- the variables of an accepted file start with some values
-some_start : (p : Parts) (ss : Members) → IsAccepted (layout_rules.Broken p) → HasShapes p ss → (vars : Value) × StartsAs p ss vars
-some_start p ss accepted h =
-    let rules : KeepsRows p = record {
-      index = λ e. accepted (RowIndex e);
-      shared = λ r. accepted (RowShared r);
-      stride = λ r. accepted (Stride r);
-      placed = λ r. accepted (RowPlace r);
-      apart = λ q r. accepted (RowOverlap q r);
-    } in
-    let vars = group_of (values_among (ground p h.plain) h.plain 0 0) in
-    (vars, subst (λ qs. StartsAs p qs vars) (sym h.strides) (found_start p h.plain h.shapes (λ e. accepted (Place e)) rules))
 
 check_code : (program : List ℕ) (p : Parts) (ss : Members) → IsFile program p → IsAccepted (layout_rules.Broken p) → HasShapes p ss →
     ((f : CodeFault) × IsRefusal (code_rules.Broken (code_in p ss)) code_rules.rank f) ⊎ IsAccepted (code_rules.Broken (code_in p ss)) → (a : Answer) × CheckFile program a

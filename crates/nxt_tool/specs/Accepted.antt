@@ -1,17 +1,18 @@
 -- Accepted files and refused ones.
-use Rattle.std.specs.Prelude.{◌≡◌, ℕ, List, [], ◌∷◌, map, codes, decimal, Some, None}
+use Rattle.std.specs.Prelude.{◌≡◌, ℕ, List, [], ◌∷◌, map, codes, decimal, true, false}
 use Rattle.nxt_types.specs.Refusals.{IsRefusal, IsAccepted}
 use Rattle.nxt_types.specs.Shapes.{Members}
 use Rattle.nxt_rxe.specs.declared.parts.Parts.{Parts}
 use Rattle.nxt_rxe.specs.Files.{IsFile}
 use Rattle.nxt_rxe.specs.FileRules as file_rules
 use Rattle.nxt_layout.specs.LayoutRules as layout_rules
-use Rattle.nxt_layout.specs.Start.{HasShapes, StartsAs, start_footprint}
+use Rattle.nxt_layout.specs.Layouts.{FileLayout, IsLayout}
+use Rattle.nxt_layout.specs.Start.{HasShapes, StartsAs, file_rows, start_footprint}
 use Rattle.nxt_code.specs.CodeRules as code_rules
 use Rattle.nxt_model.specs.Image.{Image}
 use Rattle.nxt_model.specs.Values.{Value}
 use Rattle.nxt_model.specs.LineText.{line_of}
-use Rattle.nxt_tool.specs.FirstFile.{image_in}
+use Rattle.nxt_tool.specs.First.{runs}
 use Rattle.nxt_tool.specs.declared.accept.Refusal.{Refusal}
 use Rattle.nxt_tool.specs.declared.accept.Refusal.TheVariants.{Sections, Layout, Code, Unbuilt}
 use Rattle.nxt_tool.specs.declared.accept.AcceptFault.{AcceptFault}
@@ -29,13 +30,32 @@ pub record BreaksNone (p : Parts) (ss : Members) : Type 0 where
   pub shapes : HasShapes p ss
   pub code : IsAccepted (code_rules.Broken (code_in p ss))
 
--- the bytes are a file with this image
-pub record IsAcceptedAs (bytes : List ℕ) (image : Image) : Type 0 where
-  pub parts : Parts
-  pub file : IsFile bytes parts
+-- the image of a file's parts, whose variables have these shapes and start with these values
+abbrev pub image_of : Parts → Members → Value → Image
+image_of p ss vars =
+    record {
+      entries = p.toc;
+      shapes = ss;
+      values = vars;
+      rows = file_rows p ss;
+      static_size = p.header.static_size;
+      clumps = p.clumps;
+      dependents = p.dependents;
+      words = p.code;
+    }
+
+-- the parts break no rule, and this is the image of a program that runs
+pub record IsRun (p : Parts) (image : Image) : Type 0 where
   pub shapes : Members
-  pub sound : BreaksNone parts shapes
-  pub image_is : image_in parts ≡ Some image
+  pub sound : BreaksNone p shapes
+  pub vars : Value
+  pub starts : StartsAs p shapes vars
+  pub runs : runs p shapes ≡ true
+  pub image_is : image ≡ image_of p shapes vars
+
+-- the bytes are a file with this image
+abbrev pub IsAcceptedAs : List ℕ → Image → Type 0
+IsAcceptedAs bytes image = (p : Parts) × IsFile bytes p × IsRun p image
 
 -- the parts break no rule, and the start of their variables needs so many bytes of the pool
 pub record IsSound (p : Parts) (size : ℕ) : Type 0 where
@@ -44,6 +64,11 @@ pub record IsSound (p : Parts) (size : ℕ) : Type 0 where
   pub vars : Value
   pub starts : StartsAs p shapes vars
   pub size_is : size ≡ start_footprint p shapes vars
+
+-- the parts break no rule, and this is their layout
+pub record IsJudged (p : Parts) (l : FileLayout) : Type 0 where
+  pub layout : IsLayout p l
+  pub code : IsAccepted (code_rules.Broken (code_in p l.shapes))
 
 -- the bytes are a file with such parts
 abbrev pub IsSoundFile : List ℕ → ℕ → Type 0
@@ -57,7 +82,7 @@ RefusesParts p (Sections f) = ⊥
 RefusesParts p (Layout f) = IsRefusal (layout_rules.Broken p) layout_rules.rank f
 RefusesParts p (Code f) =
     IsAccepted (layout_rules.Broken p) × (ss : Members) × HasShapes p ss × IsRefusal (code_rules.Broken (code_in p ss)) code_rules.rank f
-RefusesParts p Unbuilt = (ss : Members) × BreaksNone p ss × (image_in p ≡ None)
+RefusesParts p Unbuilt = (ss : Members) × BreaksNone p ss × (runs p ss ≡ false)
 
 -- the file is refused: by the first broken rule of its sections, or for its parts
 abbrev pub IsRefused : List ℕ → Refusal → Type 0

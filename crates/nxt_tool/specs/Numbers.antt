@@ -5,7 +5,8 @@ use Rattle.nxt_types.specs.declared.kind.Kind.TheVariants.{Ubyte}
 use Rattle.nxt_types.specs.Arithmetic.{cut, is_signed, word}
 use Rattle.nxt_types.specs.Shapes.{Number, Members, members}
 use Rattle.nxt_types.specs.Statements.{Statement}
-use Rattle.nxt_model.specs.Values.{Value, Num, group_of}
+use Rattle.nxt_model.specs.Values.{Value, Num, number, elements, group_of}
+use Rattle.nxt_space.specs.Variables.{Variables}
 use Rattle.nxt_model.specs.Devices.{Devices, set_property, update_flags, updated, motor_line}
 use Rattle.nxt_model.specs.declared.line.Line.{Line}
 use Rattle.nxt_model.specs.SystemCalls.{Clock}
@@ -18,6 +19,13 @@ shapes_of kinds = members (map Number kinds)
 
 abbrev pub vars_of : List ℤ → Value
 vars_of zs = group_of (map Num zs)
+
+-- the numbers of variables that are numbers
+abbrev pub numbers_of : Variables → List ℤ
+numbers_of s = map number (elements s.values)
+
+abbrev pub with_numbers : List ℤ → Variables → Variables
+with_numbers zs s = record s { values = vars_of zs }
 
 -- ---- what the plain machine does with them
 

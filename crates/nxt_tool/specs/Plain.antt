@@ -1,7 +1,7 @@
--- An image of numbers with one clump, and the states of its program.
-use Rattle.std.specs.Prelude.{ℕ, List, [], ◌∷◌, replicate, ℤ, Option, Some}
+-- Programs of numbers with one clump, and their states.
+use Rattle.std.specs.Prelude.{◌≡◌, ℕ, List, [], ◌∷◌, replicate, ℤ, IsTrue, Option, Some}
+use Rattle.nxt_types.specs.Statements.{statements}
 use Rattle.nxt_types.specs.declared.kind.Kind.{Kind}
-use Rattle.nxt_types.specs.declared.shape.TocEntry.{TocEntry}
 use Rattle.nxt_types.specs.declared.lists.ClumpRec.{ClumpRec}
 use Rattle.nxt_model.specs.declared.line.Stop.{Stop}
 use Rattle.nxt_model.specs.declared.line.Stop.TheVariants as stops
@@ -9,24 +9,50 @@ use Rattle.nxt_model.specs.Clumps.{Clumps, Activity, Idle, Queued, Free}
 use Rattle.nxt_model.specs.Devices.{Devices, at_start}
 use Rattle.nxt_model.specs.Image.{Image}
 use Rattle.nxt_model.specs.Program.{State}
-use Rattle.nxt_tool.specs.Numbers.{shapes_of, vars_of}
+use Rattle.nxt_model.specs.Values.{Value}
+use Rattle.nxt_space.specs.Variables.{Variables, AreSound}
+use Rattle.nxt_tool.specs.First.{are_first}
+use Rattle.nxt_tool.specs.Numbers.{shapes_of}
+use Rattle.nxt_tool.specs.declared.program.Program.{Program}
 
 -- the only clump: nothing lowers it, and it begins at the first word
 abbrev pub only_clump : ClumpRec
 only_clump = record { fire = 0; dependents = 0; start = 0 }
 
-abbrev pub image_of : List TocEntry → List Kind → List ℤ → ℕ → List ℕ → Image
-image_of entries kinds zs static_size words =
+-- the image of a program with these variables and these words
+abbrev pub image_of : Variables → List ℕ → Image
+image_of s words =
     record {
-      entries = entries;
-      shapes = shapes_of kinds;
-      values = vars_of zs;
+      entries = s.entries;
+      shapes = s.shapes;
+      values = s.start;
       rows = 1;
-      static_size = static_size;
+      static_size = s.static_size;
       clumps = only_clump ∷ [];
       dependents = [];
       words = words;
     }
+
+-- ---- programs
+
+-- the variables are numbers of these kinds
+pub record AreOfKinds (s : Variables) (kinds : List Kind) : Type 0 where
+  pub shapes : s.shapes ≡ shapes_of kinds
+  pub sound : AreSound s
+
+-- the kinds are those of the variables, and the statements those of the words
+pub record IsProgram (p : Program) : Type 0 where
+  pub kinds : AreOfKinds p.space p.kinds.items
+  pub code : p.code.items ≡ statements p.words
+  pub first : IsTrue (are_first p.code.items)
+
+-- the image that it runs
+abbrev pub image_in : Program → Image
+image_in p = image_of p.space p.words
+
+-- it is at its start
+pub record IsAtStart (p : Program) : Type 0 where
+  pub values : p.space.values ≡ p.space.start
 
 -- ---- states
 
@@ -50,10 +76,10 @@ clumps_of entries place turn stopped =
       mutexes = replicate entries Free;
     }
 
-abbrev pub state_of : ℕ → List ℤ → List (List ℤ) → ℕ → ℕ → ℕ → Option Stop → State
-state_of entries zs motors clock place turn stopped =
+abbrev pub state_of : ℕ → Value → List (List ℤ) → ℕ → ℕ → ℕ → Option Stop → State
+state_of entries vars motors clock place turn stopped =
     record {
-      values = vars_of zs;
+      values = vars;
       most_lists = 0;
       clumps = clumps_of entries place turn stopped;
       clock = clock;

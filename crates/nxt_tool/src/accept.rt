@@ -2,12 +2,12 @@
 
 ghost use Rattle.std.specs.Prelude.{◌≡◌, [], ◌∷◌, MatchResult, IfOk};
 ghost use Rattle.nxt_rxe.specs.Files.{HasCounts, Fits, IsFile};
-ghost use Rattle.nxt_tool.specs.Accepted.{IsSound, IsSoundFile, IsAcceptedAs, HasBreak, HasCause, PartsCause, accepted_line, refused_line, told};
+ghost use Rattle.nxt_tool.specs.Plain.{IsProgram, IsAtStart, image_in};
+ghost use Rattle.nxt_tool.specs.Accepted.{IsJudged, IsSoundFile, IsAcceptedAs, HasBreak, HasCause, PartsCause, accepted_line, refused_line, told};
 
-use crate::image::{ReadFault, first_image};
-use crate::machine::Image;
+use crate::program::{Program, ProgramFault, program_of};
 use nxt_code::{CodeFault, check_code};
-use nxt_layout::{LayoutFault, check_layout};
+use nxt_layout::{Layout, LayoutFault, check_layout};
 use nxt_model::text::{count_line, number_line};
 use nxt_rxe::{Parts, RxeFault, read_rxe};
 use nxt_types::{Bytes, NoMemory};
@@ -34,14 +34,15 @@ pub enum AcceptFault {
 }
 
 /// The program of a file, or why there is none.
-pub fn accept(alloc: Global, bytes: &[u8]) -> Result<Image, AcceptFault>
-    ensures { MatchResult result (IsAcceptedAs bytes.now) (HasCause bytes.now) }
+pub fn accept(alloc: Global, bytes: &[u8]) -> Result<Program, AcceptFault>
+    ensures made { IfOk result (λ p. IsProgram p × IsAtStart p) }
+    ensures accepted { MatchResult result (λ p. IsAcceptedAs bytes.now (image_in p)) (HasCause bytes.now) }
 {
-    let (parts, _footprint) = judged(alloc, bytes)?;
-    match first_image(alloc, parts) {
-        Ok(image) => Ok(image),
-        Err(ReadFault::NoMemory) => Err(AcceptFault::NoMemory),
-        Err(ReadFault::Refused) => Err(AcceptFault::Refused(Refusal::Unbuilt)),
+    let (parts, layout) = judged(alloc, bytes)?;
+    match program_of(alloc, &parts, &layout) {
+        Ok(program) => Ok(program),
+        Err(ProgramFault::NoMemory) => Err(AcceptFault::NoMemory),
+        Err(ProgramFault::Unbuilt) => Err(AcceptFault::Refused(Refusal::Unbuilt)),
     }
 }
 
@@ -49,37 +50,42 @@ pub fn accept(alloc: Global, bytes: &[u8]) -> Result<Image, AcceptFault>
 pub fn check(alloc: Global, bytes: &[u8]) -> Result<u32, AcceptFault>
     ensures { MatchResult result (IsSoundFile bytes.now) (HasBreak bytes.now) }
 {
-    let (_parts, footprint) = judged(alloc, bytes)?;
-    Ok(footprint)
+    let (_parts, layout) = judged(alloc, bytes)?;
+    Ok(layout.footprint())
 }
 
-// The parts of a file that breaks no rule, and the bytes of the pool that its start needs.
-fn judged(alloc: Global, bytes: &[u8]) -> Result<(Parts, u32), AcceptFault>
-    ensures { MatchResult result (λ x. IsFile bytes.now x.0 × IsSound x.0 x.1) (HasBreak bytes.now) }
+// The parts of a file that breaks no rule, and their layout.
+fn judged(alloc: Global, bytes: &[u8]) -> Result<(Parts, Layout), AcceptFault>
+    ensures { MatchResult result (λ x. IsFile bytes.now x.0 × IsJudged x.0 x.1) (HasBreak bytes.now) }
 {
     let parts = match read_rxe(alloc, bytes) {
         Ok(parts) => parts,
         Err(RxeFault::NoMemory) => return Err(AcceptFault::NoMemory),
         Err(fault) => return Err(AcceptFault::Refused(Refusal::Sections(fault))),
     };
-    let footprint = judge(alloc, &parts)?;
-    Ok((parts, footprint))
+    let layout = judge(alloc, &parts)?;
+    Ok((parts, layout))
 }
 
-// What the start of the parts of a file needs, where they break no rule.
-fn judge(alloc: Global, parts: &Parts) -> Result<u32, AcceptFault>
+// The layout of the parts of a file, where they break no rule.
+fn judge(alloc: Global, parts: &Parts) -> Result<Layout, AcceptFault>
     requires counts { HasCounts parts.now }
     requires fits { Fits parts.now }
-    ensures { MatchResult result (IsSound parts.now) (PartsCause parts.now) }
+    ensures { MatchResult result (IsJudged parts.now) (PartsCause parts.now) }
 {
     let layout = match check_layout(alloc, parts) {
         Ok(layout) => layout,
         Err(LayoutFault::NoMemory) => return Err(AcceptFault::NoMemory),
         Err(fault) => return Err(AcceptFault::Refused(Refusal::Layout(fault))),
     };
-    let toc = layout.toc();
-    match check_code(alloc, toc, &parts.clumps, &parts.dependents, &parts.code) {
-        Ok(_) => Ok(layout.footprint()),
+    match check_code(
+        alloc,
+        layout.toc(),
+        &parts.clumps,
+        &parts.dependents,
+        &parts.code,
+    ) {
+        Ok(_) => Ok(layout),
         Err(CodeFault::NoMemory) => Err(AcceptFault::NoMemory),
         Err(fault) => Err(AcceptFault::Refused(Refusal::Code(fault))),
     }

@@ -1,12 +1,14 @@
 ghost use Rattle.std.specs.Prelude.{◌≡◌, ◌⊎◌, ◌↔◌, ℕ, ◌≤◌, List, [], Option, Some, None};
 ghost use Rattle.nxt_edge.specs.Edge.{Rose, AreBytes};
 ghost use Rattle.nxt_tool.specs.Due.{Answer, Meets, read_status, write_status, answer_given, answer_to, refused_answer, sound_answer, Run, CheckOf, Due, UsesProgram, ReadsScript, UsesScript, Accepts, MayReadScript, Answers, IsQuiet, NotRefused};
+ghost use Rattle.nxt_tool.specs.Plain.{IsProgram, IsAtStart, image_in};
 ghost use Rattle.nxt_tool.specs.Rows.{given, at_first};
 ghost use Rattle.nxt_tool.specs.Words.{command_of, texts_of};
 ghost use Rattle.nxt_tool.specs.declared.words.Command.TheVariants.{RunRxe};
 
 use crate::accept::{AcceptFault, Refusal, accept, check, footprint_line, refusal_line};
-use crate::machine::{Image, Machine};
+use crate::machine::Machine;
+use crate::program::Program;
 use crate::running::run_script;
 use crate::status::Status;
 use crate::words::{Command, form_of};
@@ -37,31 +39,33 @@ fn of_write(fault: Fault) -> Status
     }
 }
 
-// Runs a script's bytes over an image.
-fn run_bytes<R: Sink>(alloc: Global, image: Image, bytes: &[u8], report: &mut R) -> Status
-    ensures told { Meets result (answer_given image (given (at_first bytes.now))) (R.written report.old) (R.written report.new) }
+// Runs a script's bytes over a program.
+fn run_bytes<R: Sink>(alloc: Global, program: Program, bytes: &[u8], report: &mut R) -> Status
+    requires program { IsProgram program }
+    requires start { IsAtStart program }
+    ensures told { Meets result (answer_given (image_in program) (given (at_first bytes.now))) (R.written report.old) (R.written report.new) }
     ensures write { result ≡ Status.WriteFault → Rose (R.faults report.old) (R.faults report.new) }
     ensures report { R.faults report.old ≤ R.faults report.new }
     ensures read { result ≡ Status.ReadFault → ⊥ }
     ensures accepted { NotRefused result }
 {
-    let Ok(mut machine) = Machine::new(image) else {
-        return Status::NoMemory;
-    };
+    let mut machine = Machine::new(program);
     match run_script(alloc, &mut machine, bytes, report) {
         Ok(status) => status,
         Err(fault) => of_write(fault),
     }
 }
 
-// Runs a script over an image, and reports.
-fn run_image<Q: Source, R: Sink>(
+// Runs a script over a program, and reports.
+fn run_program<Q: Source, R: Sink>(
     alloc: Global,
-    image: Image,
+    program: Program,
     script: &mut Q,
     report: &mut R,
 ) -> Status
-    ensures told { (s : List ℕ) → Q.left script.old ≡ Some s → Meets result (answer_to image s) (R.written report.old) (R.written report.new) }
+    requires program { IsProgram program }
+    requires start { IsAtStart program }
+    ensures told { (s : List ℕ) → Q.left script.old ≡ Some s → Meets result (answer_to (image_in program) s) (R.written report.old) (R.written report.new) }
     ensures read { result ≡ Status.ReadFault → Rose (Q.faults script.old) (Q.faults script.new) }
     ensures write { result ≡ Status.WriteFault → Rose (R.faults report.old) (R.faults report.new) }
     ensures script { Q.faults script.old ≤ Q.faults script.new }
@@ -72,7 +76,7 @@ fn run_image<Q: Source, R: Sink>(
         Ok(bytes) => bytes,
         Err(fault) => return of_read(fault),
     };
-    run_bytes(alloc, image, bytes.as_slice(), report)
+    run_bytes(alloc, program, bytes.as_slice(), report)
 }
 
 // Writes the line of a refused program.
@@ -110,7 +114,7 @@ fn run<P: Source, Q: Source, R: Sink>(
         Err(fault) => return of_read(fault),
     };
     match accept(alloc, bytes.as_slice()) {
-        Ok(image) => run_image(alloc, image, script, report),
+        Ok(program) => run_program(alloc, program, script, report),
         Err(AcceptFault::NoMemory) => Status::NoMemory,
         Err(AcceptFault::Refused(refusal)) => refuse(alloc, refusal, report),
     }

@@ -9,4 +9,4 @@ use Rattle.nxt_tool.proofs.top.run_bytes.Goals as goal
 pub returns-clause-told : goal.returns-clause-told
 returns-clause-told g c =
     rw c.of_write.ensures (write_failed c.in-Err.fault _ _ _
-    (subst (λ (m : Held). AppendsFront (g.R.Sink.written c.args.report.now) (g.R.Sink.written c.run_script.new.report) (report m (given (at_first c.args.bytes.now)))) c.in-Ok.ensures c.in-Err.ensures.writes.err))
+    (subst (λ (m : Held). AppendsFront (g.R.Sink.written c.args.report.now) (g.R.Sink.written c.run_script.new.report) (report m (given (at_first c.args.bytes.now)))) c.new-machine.ensures c.in-Err.ensures.writes.err))

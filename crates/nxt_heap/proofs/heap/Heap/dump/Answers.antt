@@ -1,8 +1,10 @@
-use Rattle.std.proofs.Common.{◌≡◌, ◌∙◌, [], sym, ap, arith, length, take}
+use Rattle.std.proofs.Common.{◌≡◌, ◌∙◌, [], sym, ap, subst, arith, length, take}
 use Rattle.std.proofs.lemmas.Grind.{common_steps}
 use Rattle.nxt_model.specs.Footprint.{round4}
-use Rattle.nxt_heap.specs.Lists.{footprint}
+use Rattle.nxt_heap.specs.Dumps.{HoldHeap}
+use Rattle.nxt_heap.specs.Lists.{footprint, table_of}
 use Rattle.nxt_heap.specs.Pool.{end_of}
+use Rattle.nxt_heap.proofs.Dumped.{holds-dump}
 use Rattle.nxt_heap.proofs.Dumping.{length-dump, state_of-dump}
 use Rattle.nxt_heap.proofs.Views.{footprint-state, length-static}
 use Rattle.nxt_heap.proofs.heap.Heap.dump.Goals as goal
@@ -22,6 +24,17 @@ returns-clause-shows c =
       static_bytes = rw size (ap (λ h. h.static_bytes) same);
       by_row = rw size (ap (λ h. h.by_row) same);
     })
+
+pub returns-clause-holds : goal.returns-clause-holds
+returns-clause-holds c =
+    let static_size = c.self.inside.static_size in
+    let pool = c.self.inside.pool.items in
+    let all = holds-dump static_size pool c.self.invariant.dense in
+    let size : round4 (length (take static_size pool)) ≡ round4 static_size = ap round4 (length-static static_size pool c.self.invariant.dense) in
+    subst
+    (λ h. HoldHeap c.append.new.self (table_of h) h)
+    c.self.view_is
+    (rw (front c) (rw size all))
 
 pub returns-clause-length : goal.returns-clause-length
 returns-clause-length c =

@@ -1,15 +1,22 @@
 -- The first state of the program.
-use Rattle.std.proofs.Common.{◌∙◌, ap, [], ◌∷◌, ◌≡◌}
+use Rattle.std.proofs.Common.{◌∙◌, ap, ℤ, List, [], ◌∷◌}
 use Rattle.std.specs.Prelude.{pos, replicate, length, None}
-use Rattle.nxt_tool.specs.Plain.{held, state_of}
+use Rattle.nxt_tool.specs.declared.program.Program.{Program}
+use Rattle.nxt_tool.specs.Plain.{Held, held, image_in, state_of}
 use Rattle.nxt_tool.proofs.OneClump.{start_held}
 use Rattle.nxt_tool.proofs.machine.Machine.new.Goals as goal
 
+-- a machine of a program with three motors
+abbrev first_held : Program → List ℤ → List ℤ → List ℤ → Held
+first_held p a b c = held (image_in p) (state_of (length p.space.entries) p.space.values (a ∷ b ∷ c ∷ []) 0 0 0 None)
+
+abbrev unset : List ℤ
+unset = replicate 15 (pos 0)
+
 pub returns : goal.returns
 returns c =
-    let zs : c.in_ok-values.values.items ≡ c.image.inside.values.items = c.in_ok-values.ensures in
-    ap (λ vs. held c.args.image (state_of (length c.args.image.entries) vs (c.new.result ∷ c.new-2.result ∷ c.new-3.result ∷ []) 0 0 0 None)) zs
-    ∙ ap (λ m. held c.args.image (state_of (length c.args.image.entries) c.image.inside.values.items (m ∷ c.new-2.result ∷ c.new-3.result ∷ []) 0 0 0 None)) c.new.ensures
-    ∙ ap (λ m. held c.args.image (state_of (length c.args.image.entries) c.image.inside.values.items (replicate 15 (pos 0) ∷ m ∷ c.new-3.result ∷ []) 0 0 0 None)) c.new-2.ensures
-    ∙ ap (λ m. held c.args.image (state_of (length c.args.image.entries) c.image.inside.values.items (replicate 15 (pos 0) ∷ replicate 15 (pos 0) ∷ m ∷ []) 0 0 0 None)) c.new-3.ensures
-    ∙ start_held c.args.image _ _ _ _ _ c.image.view_is
+    let p = c.args.program in
+    ap (λ m. first_held p m c.new-2.result c.new-3.result) c.new.ensures
+    ∙ ap (λ m. first_held p unset m c.new-3.result) c.new-2.ensures
+    ∙ ap (λ m. first_held p unset unset m) c.new-3.ensures
+    ∙ start_held p.space p.kinds.items p.words c.requires.program.kinds c.requires.start.values
