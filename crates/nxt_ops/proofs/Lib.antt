@@ -1,0 +1,9 @@
+pub mod Counting
+pub mod DecidingNumbers
+pub mod Fitting
+pub mod Meanings
+pub mod NumberLists
+pub mod PairedNumbers
+pub mod Signs
+pub mod Storing
+pub mod Words

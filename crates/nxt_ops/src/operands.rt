@@ -1,0 +1,58 @@
+// What the operands of a statement name.
+
+ghost use Rattle.std.specs.Prelude.{◌≡◌};
+ghost use Rattle.nxt_types.specs.Shapes.{tree, is_number as is_number_shape};
+ghost use Rattle.nxt_model.specs.Means.Effects.{element};
+ghost use Rattle.nxt_model.specs.Means.Numbers.{signed_kind};
+ghost use Rattle.nxt_ops.specs.Ops.{shape_in};
+
+use nxt_types::numbers::is_signed;
+use nxt_types::shape::Shape;
+use nxt_types::toc::Toc;
+
+/// Whether a number begins at an entry.
+pub fn is_number(toc: &Toc, i: u16) -> bool
+    ensures { result ≡ is_number_shape (shape_in toc.now i) }
+{
+    matches!(toc.shape(i), Some(Shape::Num(_)))
+}
+
+/// Whether a number of a signed kind begins at an entry.
+pub fn has_sign(toc: &Toc, i: u16) -> bool
+    ensures { result ≡ signed_kind (shape_in toc.now i) }
+{
+    match toc.shape(i) {
+        Some(shape) => is_of_signed_kind(shape),
+        None => false,
+    }
+}
+
+/// Whether the elements of the list that begins at an entry are numbers of a signed kind.
+pub fn has_signed_elements(toc: &Toc, i: u16) -> bool
+    ensures { result ≡ signed_kind (element (shape_in toc.now i)) }
+{
+    match toc.shape(i) {
+        Some(shape) => is_of_signed_kind(element_of(shape)),
+        None => false,
+    }
+}
+
+// Whether it is a number of a signed kind.
+fn is_of_signed_kind(shape: &Shape) -> bool
+    ensures { result ≡ signed_kind (tree shape.now) }
+{
+    match shape {
+        Shape::Num(kind) => is_signed(*kind),
+        Shape::Void | Shape::List(..) | Shape::Group(_) | Shape::Mutex => false,
+    }
+}
+
+// The shape of a list's elements; a number stands for each element.
+fn element_of(shape: &Shape) -> &Shape
+    ensures { tree result.now ≡ element (tree shape.now) }
+{
+    match shape {
+        Shape::List(_, element) => element,
+        Shape::Void | Shape::Num(_) | Shape::Group(_) | Shape::Mutex => shape,
+    }
+}
