@@ -1,5 +1,6 @@
 pub mod Counting
 pub mod DecidingNumbers
+pub mod FirstFit
 pub mod Fitting
 pub mod Meanings
 pub mod NumberLists

@@ -9,3 +9,6 @@ mod operator;
 pub mod run;
 
 pub use run::{Next, run_op};
+
+#[cfg(test)]
+mod tests;
