@@ -14,7 +14,7 @@ use Rattle.nxt_model.specs.declared.line.Line.TheVariants as lines
 use Rattle.nxt_model.specs.declared.line.Stop.{Stop}
 use Rattle.nxt_model.specs.declared.line.Stop.TheVariants as stops
 use Rattle.nxt_model.specs.Values.{Value, Num, items, values, lists_in, lists_among}
-use Rattle.nxt_model.specs.Footprint.{round4, footprint, rows_for, member_bytes, pool_size}
+use Rattle.nxt_model.specs.Footprint.{round4, footprint, member_bytes, pool_size}
 use Rattle.nxt_model.specs.Devices.{Devices}
 use Rattle.nxt_model.specs.SystemCalls.{Clock}
 use Rattle.nxt_model.specs.Means.Effects.{Effect}
@@ -40,18 +40,18 @@ lists_none : (zs : List ℤ) → lists_among (values (map Num zs)) ≡ 0
 lists_none [] = refl
 lists_none (z ∷ zs) = ap (λ n. 0 + n) (lists_none zs)
 
-pub no_lists : (zs : List ℤ) → max 0 (lists_in (vars_of zs)) ≡ 0
-no_lists zs = ap (λ n. max 0 n) (lists_none zs)
+pub row_zero : (zs : List ℤ) → max 1 (lists_in (vars_of zs) + 1) ≡ 1
+row_zero zs = ap (λ n. max 1 (n + 1)) (lists_none zs)
 
 bytes_none : (ks : List Kind) (zs : List ℤ) → member_bytes (members (map Number ks)) (items (values (map Num zs))) ≡ 0
 bytes_none [] zs = refl
 bytes_none (k ∷ ks) [] = refl
 bytes_none (k ∷ ks) (z ∷ zs) = ap (λ n. 0 + n) (bytes_none ks zs)
 
-pub fits : (static_size : ℕ) (ks : List Kind) (zs : List ℤ) → round4 static_size + 12 ≤ 32768 → footprint static_size (rows_for 1 (max 0 (lists_in (vars_of zs)))) (shapes_of ks) (vars_of zs) ≤ pool_size
+pub fits : (static_size : ℕ) (ks : List Kind) (zs : List ℤ) → round4 static_size + 12 ≤ 32768 → footprint static_size (max 1 (lists_in (vars_of zs) + 1)) (shapes_of ks) (vars_of zs) ≤ pool_size
 fits static_size ks zs h =
-    let a : footprint static_size (rows_for 1 (max 0 (lists_in (vars_of zs)))) (shapes_of ks) (vars_of zs) ≡ round4 static_size + 12 + 0 =
-    ap (λ n. footprint static_size (rows_for 1 n) (shapes_of ks) (vars_of zs)) (no_lists zs) ∙ ap (λ n. round4 static_size + 12 + n) (bytes_none ks zs) in
+    let a : footprint static_size (max 1 (lists_in (vars_of zs) + 1)) (shapes_of ks) (vars_of zs) ≡ round4 static_size + 12 + 0 =
+    ap (λ n. footprint static_size n (shapes_of ks) (vars_of zs)) (row_zero zs) ∙ ap (λ n. round4 static_size + 12 + n) (bytes_none ks zs) in
     omega (arith, a, h)
 
 -- nothing stands before the first word
@@ -82,12 +82,12 @@ module _ (space : Variables) (ks : List Kind) (words : List ℕ) (small : round4
     abbrev pub effect : Statement → Effect
     effect s = effect_of ks zs s (devices_of motors) clock_now
 
-    -- a state of these clumps, values, number of lists and devices
+    -- a state of these clumps, values, rows of the table and devices
     abbrev pub state_with : Clumps → Value → ℕ → Devices → Option Stop → State
-    state_with cs vars most devices stopped =
+    state_with cs vars rows devices stopped =
         record {
           values = vars;
-          most_lists = most;
+          rows = rows;
           clumps = cs;
           clock = clock;
           start_tick = 0;
@@ -99,11 +99,11 @@ module _ (space : Variables) (ks : List Kind) (words : List ℕ) (small : round4
     abbrev pub clump_at : ℕ → ℕ → Clumps
     clump_at place turn = single 0 place turn (replicate (length space.entries) Free)
 
-    abbrev pub after_most : ℕ → Value → ℕ → Devices → State
-    after_most next vars most devices = state_with (clump_at next (turn_after turn)) vars most devices None
+    abbrev pub after_rows : ℕ → Value → ℕ → Devices → State
+    after_rows next vars rows devices = state_with (clump_at next (turn_after turn)) vars rows devices None
 
     abbrev pub after_with : ℕ → Value → Devices → State
-    after_with next vars devices = after_most next vars (max 0 (lists_in vars)) devices
+    after_with next vars devices = after_rows next vars (max 1 (lists_in vars + 1)) devices
 
     abbrev pub as_run : ℕ × Statement → Instruction
     as_run = instruction (shapes_of ks) (code_of image)
@@ -119,21 +119,21 @@ module _ (space : Variables) (ks : List Kind) (words : List ℕ) (small : round4
     plain_step word s zs' motors' b ls plain at v d j l =
         let i : Instruction = instruction (shapes_of ks) (code_of image) (word, s) in
         let found : slice_get program.code place ≡ Some i = fetched (Some (word, s)) at in
-        let room : footprint space.static_size (rows_for 1 (max 0 (lists_in (values_after ks zs s (devices_of motors) clock_now)))) (shapes_of ks) (values_after ks zs s (devices_of motors) clock_now) ≤ pool_size =
-        subst (λ (x : Value). footprint space.static_size (rows_for 1 (max 0 (lists_in x))) (shapes_of ks) x ≤ pool_size) (sym v) (fits space.static_size ks zs' small) in
+        let room : footprint space.static_size (max 1 (lists_in (values_after ks zs s (devices_of motors) clock_now) + 1)) (shapes_of ks) (values_after ks zs s (devices_of motors) clock_now) ≤ pool_size =
+        subst (λ (x : Value). footprint space.static_size (max 1 (lists_in x + 1)) (shapes_of ks) x ≤ pool_size) (sym v) (fits space.static_size ks zs' small) in
         let there : ℕ = target (code_of image) word (slice_index s.args 0) in
-        bytecode_plain program 0 place turn (replicate (length space.entries) Free) (vars_of zs) 0 clock 0 (devices_of motors) i plain found room
+        bytecode_plain program 0 place turn (replicate (length space.entries) Free) (vars_of zs) 1 clock 0 (devices_of motors) i plain found room
         ∙ ap (λ x. stepped (after_with (if (effect s).jumps then target (code_of image) word (slice_index s.args 0) else place + 1) x (effect s).devices) (effect s).lines) v
         ∙ ap (λ x. stepped (after_with (if (effect s).jumps then target (code_of image) word (slice_index s.args 0) else place + 1) (vars_of zs') x) (effect s).lines) d
         ∙ ap (λ x. stepped (after_with (if x then target (code_of image) word (slice_index s.args 0) else place + 1) (vars_of zs') (devices_of motors')) (effect s).lines) j
         ∙ ap (λ x. stepped (after_with (if b then target (code_of image) word (slice_index s.args 0) else place + 1) (vars_of zs') (devices_of motors')) x) l
-        ∙ ap (λ n. stepped (after_most (if b then target (code_of image) word (slice_index s.args 0) else place + 1) (vars_of zs') n (devices_of motors')) ls) (no_lists zs')
+        ∙ ap (λ n. stepped (after_rows (if b then target (code_of image) word (slice_index s.args 0) else place + 1) (vars_of zs') n (devices_of motors')) ls) (row_zero zs')
 
-    room_left : nat_lt pool_size (footprint space.static_size (rows_for 1 (max 0 (lists_in (vars_of zs)))) (shapes_of ks) (vars_of zs)) ≡ false
+    room_left : nat_lt pool_size (footprint space.static_size (max 1 (lists_in (vars_of zs) + 1)) (shapes_of ks) (vars_of zs)) ≡ false
     room_left = let h = fits space.static_size ks zs small in grind (arith, nat_tests, h)
 
     abbrev pub room : ℕ
-    room = footprint space.static_size (rows_for 1 (max 0 (lists_in (vars_of zs)))) (shapes_of ks) (vars_of zs)
+    room = footprint space.static_size (max 1 (lists_in (vars_of zs) + 1)) (shapes_of ks) (vars_of zs)
 
     abbrev pub ran : ℕ → Statement → Running
     ran word s = running now 0 place (instruction (shapes_of ks) (code_of image) (word, s))
@@ -143,7 +143,7 @@ module _ (space : Variables) (ks : List Kind) (words : List ℕ) (small : round4
 
     -- the state after a statement without an effect, before its clump rule
     abbrev pub still : State
-    still = state_with (clump_at place turn) (vars_of zs) (max 0 (lists_in (vars_of zs))) (devices_of motors) None
+    still = state_with (clump_at place turn) (vars_of zs) (max 1 (lists_in (vars_of zs) + 1)) (devices_of motors) None
 
     -- what a statement does that was found and fits
     found : (word : ℕ) (s : Statement) → slice_get (code_of image) place ≡ Some (word, s) → bytecode program now ≡ then_step (run_if program now (Some (ran word s))) test_end
@@ -152,11 +152,11 @@ module _ (space : Variables) (ks : List Kind) (words : List ℕ) (small : round4
     stopped_at : (rs : List Reference) (b : Bool) → then_step (ruled still rs [] [] (if b then stops_with stops.Stopped moved else fine moved)) test_end
         ≡ stepped (state_of (length space.entries) (vars_of zs) motors clock (place + 1) (turn_after turn) (if b then Some stops.Stopped else None)) (if b then lines.Stop stops.Stopped ∷ [] else [])
     stopped_at rs true =
-        ap (λ cs. stepped (state_with cs (vars_of zs) (max 0 (lists_in (vars_of zs))) (devices_of motors) (Some stops.Stopped)) (lines.Stop stops.Stopped ∷ [])) (turned_single 0 (place + 1) turn (replicate (length space.entries) Free))
-        ∙ ap (λ n. stepped (state_with (clump_at (place + 1) (turn_after turn)) (vars_of zs) n (devices_of motors) (Some stops.Stopped)) (lines.Stop stops.Stopped ∷ [])) (no_lists zs)
+        ap (λ cs. stepped (state_with cs (vars_of zs) (max 1 (lists_in (vars_of zs) + 1)) (devices_of motors) (Some stops.Stopped)) (lines.Stop stops.Stopped ∷ [])) (turned_single 0 (place + 1) turn (replicate (length space.entries) Free))
+        ∙ ap (λ n. stepped (state_with (clump_at (place + 1) (turn_after turn)) (vars_of zs) n (devices_of motors) (Some stops.Stopped)) (lines.Stop stops.Stopped ∷ [])) (row_zero zs)
     stopped_at rs false =
-        ap (λ cs. then_step (stepped (state_with cs (vars_of zs) (max 0 (lists_in (vars_of zs))) (devices_of motors) None) []) test_end) (turned_single 0 (place + 1) turn (replicate (length space.entries) Free))
-        ∙ ap (λ n. stepped (after_most (place + 1) (vars_of zs) n (devices_of motors)) []) (no_lists zs)
+        ap (λ cs. then_step (stepped (state_with cs (vars_of zs) (max 1 (lists_in (vars_of zs) + 1)) (devices_of motors) None) []) test_end) (turned_single 0 (place + 1) turn (replicate (length space.entries) Free))
+        ∙ ap (λ n. stepped (after_rows (place + 1) (vars_of zs) n (devices_of motors)) []) (row_zero zs)
 
     -- a stop, which may go on
     pub stop_step : (cmp : Cmp) (args : List ℕ) (word : ℕ) (b : Bool) → slice_get (code_of image) place ≡ Some (word, statement ops.Stop cmp args) →
@@ -165,7 +165,7 @@ module _ (space : Variables) (ks : List Kind) (words : List ℕ) (small : round4
     stop_step cmp args word b at e =
         let s : Statement = statement ops.Stop cmp args in
         found word (statement ops.Stop cmp args) at
-        ∙ ap (λ x. then_step (if x then stop (stops.Memory room) (state_with (turned moved) (vars_of zs) 0 (devices_of motors) None) else done program now (ran word (statement ops.Stop cmp args)) moved) test_end) room_left
+        ∙ ap (λ x. then_step (if x then stop (stops.Memory room) (state_with (turned moved) (vars_of zs) 1 (devices_of motors) None) else done program now (ran word (statement ops.Stop cmp args)) moved) test_end) room_left
         ∙ ap (λ x. then_step (ruled still (references_of ks (statement ops.Stop cmp args)) [] [] (if x then stops_with stops.Stopped moved else fine moved)) test_end) e
         ∙ stopped_at (references_of ks (statement ops.Stop cmp args)) b
 
@@ -174,9 +174,9 @@ module _ (space : Variables) (ks : List Kind) (words : List ℕ) (small : round4
         bytecode program now ≡ stepped (state_of (length space.entries) (vars_of zs) motors clock 0 0 (Some stops.Finished)) (lines.Stop stops.Finished ∷ [])
     finish_step cmp args word at =
         found word (statement ops.Finclump cmp args) at
-        ∙ ap (λ x. then_step (if x then stop (stops.Memory room) (state_with (turned moved) (vars_of zs) 0 (devices_of motors) None) else done program now (ran word (statement ops.Finclump cmp args)) moved) test_end) room_left
-        ∙ ap (λ n. stepped (state_with (clumps_of (length space.entries) n 0 (Some stops.Finished)) (vars_of zs) (max 0 (lists_in (vars_of zs))) (devices_of motors) (Some stops.Finished)) (lines.Stop stops.Finished ∷ [])) (none_before (code_of image))
-        ∙ ap (λ n. stepped (state_with (clumps_of (length space.entries) 0 0 (Some stops.Finished)) (vars_of zs) n (devices_of motors) (Some stops.Finished)) (lines.Stop stops.Finished ∷ [])) (no_lists zs)
+        ∙ ap (λ x. then_step (if x then stop (stops.Memory room) (state_with (turned moved) (vars_of zs) 1 (devices_of motors) None) else done program now (ran word (statement ops.Finclump cmp args)) moved) test_end) room_left
+        ∙ ap (λ n. stepped (state_with (clumps_of (length space.entries) n 0 (Some stops.Finished)) (vars_of zs) (max 1 (lists_in (vars_of zs) + 1)) (devices_of motors) (Some stops.Finished)) (lines.Stop stops.Finished ∷ [])) (none_before (code_of image))
+        ∙ ap (λ n. stepped (state_with (clumps_of (length space.entries) 0 0 (Some stops.Finished)) (vars_of zs) n (devices_of motors) (Some stops.Finished)) (lines.Stop stops.Finished ∷ [])) (row_zero zs)
 
 -- ---- the same, of variables that are numbers of these kinds
 
@@ -251,10 +251,10 @@ first_plain _ e n m = refl
 start_state : (space : Variables) (words : List ℕ) → lists_in space.start ≡ 0 →
     first_state (program_of (image_of space words)) ≡ state_of (length space.entries) space.start (replicate 3 (replicate 15 (pos 0))) 0 0 0 None
 start_state space words none =
-    ap (λ n. with_most n (statement_number (statements words) 0)) none ∙ ap (λ k. with_most 0 k) (none_before (statements words))
+    ap (λ n. with_rows (max 1 (n + 1)) (statement_number (statements words) 0)) none ∙ ap (λ k. with_rows 1 k) (none_before (statements words))
   where
-    with_most : ℕ → ℕ → State
-    with_most n k = record (state_of (length space.entries) space.start (replicate 3 (replicate 15 (pos 0))) 0 k 0 None) { most_lists = n }
+    with_rows : ℕ → ℕ → State
+    with_rows n k = record (state_of (length space.entries) space.start (replicate 3 (replicate 15 (pos 0))) 0 k 0 None) { rows = n }
 
 -- where the variables are at their start
 pub start_held : (space : Variables) (ks : List Kind) (words : List ℕ) → AreOfKinds space ks → space.values ≡ space.start →

@@ -80,7 +80,7 @@ abbrev pub state_of : ℕ → Value → List (List ℤ) → ℕ → ℕ → ℕ 
 state_of entries vars motors clock place turn stopped =
     record {
       values = vars;
-      most_lists = 0;
+      rows = 1;
       clumps = clumps_of entries place turn stopped;
       clock = clock;
       start_tick = 0;
