@@ -1,6 +1,6 @@
+pub mod CodeFit
 pub mod Counting
 pub mod DecidingNumbers
-pub mod FirstFit
 pub mod Fitting
 pub mod Meanings
 pub mod NumberLists

@@ -4,11 +4,11 @@
 
 mod comparing;
 mod lists;
-mod operands;
+pub mod operands;
 mod operator;
 pub mod run;
 
-pub use run::{Next, run_op};
+pub use run::{Next, run_op, runs};
 
 #[cfg(test)]
 mod tests;

@@ -2,13 +2,29 @@
 
 ghost use Rattle.std.specs.Prelude.{◌≡◌};
 ghost use Rattle.nxt_types.specs.Shapes.{tree, is_number as is_number_shape};
-ghost use Rattle.nxt_model.specs.Means.Effects.{element};
+ghost use Rattle.nxt_model.specs.Means.Effects.{element, word_or as word_or_else};
 ghost use Rattle.nxt_model.specs.Means.Numbers.{signed_kind};
 ghost use Rattle.nxt_ops.specs.Ops.{shape_in};
+ghost use Rattle.nxt_ops.specs.Operands.{given_or_left};
 
-use nxt_types::numbers::is_signed;
+use nxt_space::Space;
+use nxt_types::numbers::{is_signed, wrap};
 use nxt_types::shape::Shape;
 use nxt_types::toc::Toc;
+
+/// The operand's word that leaves it out.
+const LEFT_OUT: u16 = 0xFFFF;
+
+/// The word of the number that begins at an entry, or another one where the operand is left out.
+pub fn word_or(space: &Space, i: u16, other: u32) -> u32
+    ensures { result ≡ word_or_else other (given_or_left space.now i) }
+{
+    if i == LEFT_OUT {
+        other
+    } else {
+        wrap(space.get(i))
+    }
+}
 
 /// Whether a number begins at an entry.
 pub fn is_number(toc: &Toc, i: u16) -> bool

@@ -9,7 +9,7 @@ ghost use Rattle.nxt_model.specs.SystemCalls.{Clock};
 ghost use Rattle.nxt_model.specs.Values.{stored};
 ghost use Rattle.nxt_space.specs.Variables.{name_of, shape_of, value_of, with_value};
 ghost use Rattle.nxt_space.specs.Outcomes.{Does};
-ghost use Rattle.nxt_ops.specs.Ops.{CanRun, AreOf, AllTrue, Done, given, next_of, effect_in, values_after, value_of_two, value_of_one, asked_of_two, stores, two_of as operator_on_two, one_of as operator_on_one};
+ghost use Rattle.nxt_ops.specs.Ops.{CanRun, AreOf, AllTrue, Done, given, next_of, effect_in, values_after, value_of_two, value_of_one, asked_of_two, stores, runs as does_run, two_of as operator_on_two, one_of as operator_on_one};
 
 use crate::comparing::holds;
 use crate::lists::{combine_lists, map_list};
@@ -28,6 +28,32 @@ use std::alloc::Global;
 pub enum Next {
     Fall,
     Jump(i32),
+}
+
+/// Whether `run_op` runs the statements of an operation.
+pub fn runs(op: Op) -> bool
+    ensures { result ≡ does_run op }
+{
+    matches!(
+        op,
+        Op::Add
+            | Op::Sub
+            | Op::Neg
+            | Op::Mul
+            | Op::Div
+            | Op::Mod
+            | Op::And
+            | Op::Or
+            | Op::Xor
+            | Op::Not
+            | Op::Cmp
+            | Op::Tst
+            | Op::Mov
+            | Op::Set
+            | Op::Jmp
+            | Op::Brcmp
+            | Op::Brtst
+    )
 }
 
 /// Runs arithmetic, a comparison, a move or a jump (Executable File Specification, "Math", "Logic", "Comparison", "Data

@@ -9,7 +9,7 @@ ghost use Rattle.nxt_layout.specs.Layouts.{IsLayout};
 ghost use Rattle.nxt_space.specs.Variables.{shape_by};
 ghost use Rattle.nxt_ops.specs.Ops.{AreFit, CanRun, statement_in, runs as does_run};
 
-use crate::{Next, run_op};
+use crate::{Next, run_op, runs};
 use nxt_code::operands::bad_operand;
 use nxt_code::statements::decode_all;
 use nxt_layout::{Layout, check_layout};
@@ -85,32 +85,6 @@ fn layout_of(alloc: Global, plan: &Plan) -> Result<Layout, Fail>
     let file = file_of(alloc, plan)?;
     let parts = read_rxe(alloc, file.as_slice())?;
     Ok(check_layout(alloc, &parts)?)
-}
-
-// Whether `run_op` runs it.
-fn runs(op: Op) -> bool
-    ensures { IsTrue result → does_run op ≡ true }
-{
-    matches!(
-        op,
-        Op::Add
-            | Op::Sub
-            | Op::Neg
-            | Op::Mul
-            | Op::Div
-            | Op::Mod
-            | Op::And
-            | Op::Or
-            | Op::Xor
-            | Op::Not
-            | Op::Cmp
-            | Op::Tst
-            | Op::Mov
-            | Op::Set
-            | Op::Jmp
-            | Op::Brcmp
-            | Op::Brtst
-    )
 }
 
 // The statement that the words begin with, if all of theirs are fit and `run_op` runs it.

@@ -5,7 +5,7 @@ pub mod fault;
 mod holding;
 pub mod path;
 mod reading;
-mod sizing;
+pub mod sizing;
 pub mod space;
 mod starting;
 mod writing;
@@ -14,6 +14,7 @@ pub use fault::OpFault;
 pub use holding::Flat;
 pub use nxt_heap::PoolPassed;
 pub use path::Path;
+pub use sizing::{Size, spelled_size};
 pub use space::Space;
 
 #[cfg(test)]

@@ -25,8 +25,8 @@ pub struct Size {
 pub const NONE: Size = Size { lists: 0, bytes: 0 };
 
 impl Size {
-    // Both together.
-    fn plus(self, other: Size) -> Size
+    /// Both together.
+    pub fn plus(self, other: Size) -> Size
         requires lists { self.lists + other.lists < 2 ^ 64 }
         requires bytes { self.bytes + other.bytes < 2 ^ 64 }
         ensures { result ≡ record { lists = self.lists + other.lists; bytes = self.bytes + other.bytes } }
@@ -37,8 +37,8 @@ impl Size {
         }
     }
 
-    // With a list around, of so many elements.
-    fn in_list(self, count: u64, stride: u32) -> Size
+    /// With a list around, of so many elements, each so many bytes behind the one before it.
+    pub fn in_list(self, count: u64, stride: u32) -> Size
         requires lists { self.lists + 1 < 2 ^ 64 }
         requires bytes { self.bytes + rounded (count * stride) < 2 ^ 64 }
         ensures { result ≡ record { lists = self.lists + 1; bytes = rounded (count * stride) + self.bytes } }

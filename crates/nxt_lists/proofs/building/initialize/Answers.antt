@@ -1,0 +1,122 @@
+-- The list has the size of so many copies.
+use Rattle.std.proofs.Common.{rules, ◌≡◌, ◌*◌, ◌<◌, ◌^◌, ◌++◌, Err, sym, ap, ap₂, ◌∙◌, subst, arith, w64}
+use Rattle.std.specs.Prelude.{replicate}
+use Rattle.std.proofs.Math.Facts.{to_z-of_z}
+use mir.Val.{SFits}
+use Rattle.nxt_types.specs.Arithmetic.{word}
+use Rattle.nxt_types.specs.OperandRules.{element_of}
+use Rattle.nxt_types.specs.Shapes.{tree}
+use Rattle.nxt_model.specs.Values.{flat, list_of, stored}
+use Rattle.nxt_space.specs.Sizes.{IsCountable, size_of_filled}
+use Rattle.nxt_space.specs.Variables.{shape_of, value_of}
+use Rattle.nxt_space.specs.declared.sizing.Size.{Size}
+use Rattle.nxt_ops.proofs.NumberLists.{shape_there}
+use Rattle.nxt_lists.specs.Pieces.{with_list}
+use Rattle.nxt_lists.proofs.ListStored.{spelled_storable}
+use Rattle.nxt_lists.proofs.Meant.{Gives, given_stored}
+use Rattle.nxt_lists.proofs.Copies.{is_copied, all_spelled}
+use Rattle.nxt_lists.proofs.Storable.{all_countable, store_gives}
+use Rattle.nxt_lists.proofs.building.initialize.Goals as goal
+
+pub spelled_size-requires : goal.spelled_size-requires
+spelled_size-requires c =
+    let s = c.args.space.now in
+    let t = tree c.element_of.result.now in
+    let same = c.element_of.ensures ∙ ap element_of (shape_there c.args.toc.now s c.args.dest c.requires.of) in
+    let spelled = c.as_slice.ensures ∙ c.in-Ok.ensures ∙ ap (λ zs. zs ++ flat (value_of s c.args.value)) c.new-one.ensures in
+    let few : c.wrap-count.result < 2 ^ 32 = search rules in
+    let copied = is_copied s c.args.dest c.args.value c.wrap-count.result t c.as_slice.result.now c.requires.of.sound c.requires.dest c.requires.value c.requires.of_list c.requires.fit same few spelled in
+    record { lists = omega (arith, copied.small.lists); bytes = omega (arith, copied.small.bytes) }
+
+pub times-requires-clause-lists : goal.times-requires-clause-lists
+times-requires-clause-lists c =
+    let s = c.args.space.now in
+    let t = tree c.element_of.result.now in
+    let same = c.element_of.ensures ∙ ap element_of (shape_there c.args.toc.now s c.args.dest c.requires.of) in
+    let spelled = c.as_slice.ensures ∙ c.in-Ok.ensures ∙ ap (λ zs. zs ++ flat (value_of s c.args.value)) c.new-one.ensures in
+    let few : c.wrap-count.result < 2 ^ 32 = search rules in
+    let copied = is_copied s c.args.dest c.args.value c.wrap-count.result t c.as_slice.result.now c.requires.of.sound c.requires.dest c.requires.value c.requires.of_list c.requires.fit same few spelled in
+    let is = ap (λ z. z.lists) c.spelled_size.ensures.size in
+    omega (arith, is, copied.small.lists)
+
+pub times-requires-clause-bytes : goal.times-requires-clause-bytes
+times-requires-clause-bytes c =
+    let s = c.args.space.now in
+    let t = tree c.element_of.result.now in
+    let same = c.element_of.ensures ∙ ap element_of (shape_there c.args.toc.now s c.args.dest c.requires.of) in
+    let spelled = c.as_slice.ensures ∙ c.in-Ok.ensures ∙ ap (λ zs. zs ++ flat (value_of s c.args.value)) c.new-one.ensures in
+    let few : c.wrap-count.result < 2 ^ 32 = search rules in
+    let copied = is_copied s c.args.dest c.args.value c.wrap-count.result t c.as_slice.result.now c.requires.of.sound c.requires.dest c.requires.value c.requires.of_list c.requires.fit same few spelled in
+    let is = ap (λ z. z.bytes) c.spelled_size.ensures.size in
+    omega (arith, is, copied.small.bytes)
+
+pub check_room-requires-clause-countable : goal.check_room-requires-clause-countable
+check_room-requires-clause-countable c =
+    let s = c.args.space.now in
+    let t = tree c.element_of.result.now in
+    let same = c.element_of.ensures ∙ ap element_of (shape_there c.args.toc.now s c.args.dest c.requires.of) in
+    let spelled = c.as_slice.ensures ∙ c.in-Ok.ensures ∙ ap (λ zs. zs ++ flat (value_of s c.args.value)) c.new-one.ensures in
+    let few : c.wrap-count.result < 2 ^ 32 = search rules in
+    let copied = is_copied s c.args.dest c.args.value c.wrap-count.result t c.as_slice.result.now c.requires.of.sound c.requires.dest c.requires.value c.requires.of_list c.requires.fit same few spelled in
+    let all = with_list (shape_of s c.args.dest) in
+    let is : all c.from.result c.times.result ≡ all c.wrap-count.result (record { lists = c.wrap-count.result * (size_of_filled t c.as_slice.result.now).lists; bytes = c.wrap-count.result * (size_of_filled t c.as_slice.result.now).bytes }) =
+    ap₂ all c.from.ensures (c.times.ensures ∙ ap (λ (z : Size). let y : Size = record { lists = c.wrap-count.result * z.lists; bytes = c.wrap-count.result * z.bytes } in y) c.spelled_size.ensures.size)
+    in
+    subst IsCountable (sym is) copied.size.small
+
+pub returns-in-Err-check_room : goal.returns-in-Err-check_room
+returns-in-Err-check_room c d =
+    let s = c.args.space.now in
+    let t = tree c.element_of.result.now in
+    let same = c.element_of.ensures ∙ ap element_of (shape_there c.args.toc.now s c.args.dest c.requires.of) in
+    let spelled = c.as_slice.ensures ∙ c.in-Ok.ensures ∙ ap (λ zs. zs ++ flat (value_of s c.args.value)) c.new-one.ensures in
+    let few : c.wrap-count.result < 2 ^ 32 = search rules in
+    let copied = is_copied s c.args.dest c.args.value c.wrap-count.result t c.as_slice.result.now c.requires.of.sound c.requires.dest c.requires.value c.requires.of_list c.requires.fit same few spelled in
+    let all = with_list (shape_of s c.args.dest) in
+    let is : all c.from.result c.times.result ≡ all c.wrap-count.result (record { lists = c.wrap-count.result * (size_of_filled t c.as_slice.result.now).lists; bytes = c.wrap-count.result * (size_of_filled t c.as_slice.result.now).bytes }) =
+    ap₂ all c.from.ensures (c.times.ensures ∙ ap (λ (z : Size). let y : Size = record { lists = c.wrap-count.result * z.lists; bytes = c.wrap-count.result * z.bytes } in y) c.spelled_size.ensures.size)
+    in
+    let read : SFits w64 c.get.result = search rules in
+    let counted = c.wrap-count.ensures ∙ ap word (to_z-of_z read ∙ c.get.ensures) in
+    let v = list_of (replicate c.wrap-count.result (value_of s c.args.value)) in
+    subst
+    (λ k. Gives s c.args.dest (list_of (replicate k (value_of s c.args.value))) (Err c.in-Err-check_room.fault) s)
+    counted
+    (given_stored s s c.args.dest v (Err c.in-Err-check_room.fault) (c.in-Err-check_room.ensures.refused (stored (shape_of s c.args.dest) v) (is ∙ copied.size.is)))
+    d
+
+pub store_spelled-requires-clause-countable : goal.store_spelled-requires-clause-countable
+store_spelled-requires-clause-countable c =
+    let s = c.args.space.now in
+    let t = tree c.element_of.result.now in
+    let same = c.element_of.ensures ∙ ap element_of (shape_there c.args.toc.now s c.args.dest c.requires.of) in
+    let spelled = c.as_slice.ensures ∙ c.in-Ok.ensures ∙ ap (λ zs. zs ++ flat (value_of s c.args.value)) c.new-one.ensures in
+    let few : c.wrap-count.result < 2 ^ 32 = search rules in
+    let copied = is_copied s c.args.dest c.args.value c.wrap-count.result t c.as_slice.result.now c.requires.of.sound c.requires.dest c.requires.value c.requires.of_list c.requires.fit same few spelled in
+    let again = c.as_slice-2.ensures ∙ c.in-Ok.ensures ∙ ap (λ zs. zs ++ flat (value_of s c.args.value)) c.new-one.ensures in
+    let vs = replicate c.wrap-count.result (value_of s c.args.value) in
+    all_countable s c.args.dest (list_of vs) c.copies-flat.result
+    (spelled_storable s c.args.dest vs c.copies-flat.result c.requires.of.sound c.requires.dest copied.are
+    (all_spelled c.wrap-count.result (value_of s c.args.value) c.as_slice-2.result.now c.copies-flat.result again c.copies-flat.ensures))
+
+pub returns : goal.returns
+returns c d =
+    let s = c.args.space.now in
+    let t = tree c.element_of.result.now in
+    let same = c.element_of.ensures ∙ ap element_of (shape_there c.args.toc.now s c.args.dest c.requires.of) in
+    let spelled = c.as_slice.ensures ∙ c.in-Ok.ensures ∙ ap (λ zs. zs ++ flat (value_of s c.args.value)) c.new-one.ensures in
+    let few : c.wrap-count.result < 2 ^ 32 = search rules in
+    let copied = is_copied s c.args.dest c.args.value c.wrap-count.result t c.as_slice.result.now c.requires.of.sound c.requires.dest c.requires.value c.requires.of_list c.requires.fit same few spelled in
+    let again = c.as_slice-2.ensures ∙ c.in-Ok.ensures ∙ ap (λ zs. zs ++ flat (value_of s c.args.value)) c.new-one.ensures in
+    let read : SFits w64 c.get.result = search rules in
+    let counted = c.wrap-count.ensures ∙ ap word (to_z-of_z read ∙ c.get.ensures) in
+    let vs = replicate c.wrap-count.result (value_of s c.args.value) in
+    let e =
+    spelled_storable s c.args.dest vs c.copies-flat.result c.requires.of.sound c.requires.dest copied.are
+    (all_spelled c.wrap-count.result (value_of s c.args.value) c.as_slice-2.result.now c.copies-flat.result again c.copies-flat.ensures)
+    in
+    subst
+    (λ k. Gives s c.args.dest (list_of (replicate k (value_of s c.args.value))) c.store_spelled.result c.store_spelled.new.space)
+    counted
+    (store_gives s c.store_spelled.new.space c.args.dest (list_of vs) c.copies-flat.result c.store_spelled.result e c.store_spelled.ensures)
+    d

@@ -1,0 +1,163 @@
+// Statements on the elements of one list.
+
+ghost use Rattle.std.specs.Prelude.{◌≡◌, ◌∷◌, ◌<◌, ◌≤◌, [], true, pos, length, slice_index_or, slice_range, Ok, IfOk, IsSome};
+ghost use Rattle.nxt_types.specs.OperandRules.{is_list, element_of, goes_into};
+ghost use Rattle.nxt_types.specs.Shapes.{convertible, is_number};
+ghost use Rattle.nxt_model.specs.Devices.{Devices};
+ghost use Rattle.nxt_model.specs.Means.Arrays.{index as index_means, replace as replace_means, array_size as size_means, subset as subset_means, overwritten as overwritten_elements, pieces};
+ghost use Rattle.nxt_model.specs.Values.{Num, elements, flat as flat_form, list_of};
+ghost use Rattle.nxt_space.specs.Variables.{name_of, shape_of, value_of};
+ghost use Rattle.nxt_space.specs.Outcomes.{Does};
+ghost use Rattle.nxt_ops.specs.Ops.{AreOf, Done, given};
+ghost use Rattle.nxt_ops.specs.Operands.{given_or_left, place_of, values_stored};
+
+use crate::gathering::{length_of, push_element, push_elements, push_pieces};
+use crate::storing::store_spelled;
+use nxt_ops::operands::word_or;
+use nxt_space::{Flat, OpFault, Path, Space};
+use nxt_types::NoMemory;
+use nxt_types::toc::Toc;
+use std::alloc::Global;
+
+/// Stores the element of a list at an index (0 where it is left out), or past the list's end the zero value.
+pub fn index(
+    alloc: Global,
+    toc: &Toc,
+    space: &mut Space,
+    dest: u16,
+    list: u16,
+    at: u16,
+) -> Result<(), OpFault>
+    requires of { AreOf toc.now space.old }
+    requires dest { IsSome (name_of space.old dest) }
+    requires list { IsSome (name_of space.old list) }
+    requires of_list { is_list (shape_of space.old list) ≡ true }
+    requires fit { convertible (shape_of space.old dest) (element_of (shape_of space.old list)) ≡ true }
+    ensures { (d : Devices) → Does Done (values_stored space.old (place_of space.old dest ∷ []) (index_means d (given space.old dest) (given space.old list) (given_or_left space.old at))) space.old result space.new }
+{
+    let flat = element_or_none(alloc, space, list, word_or(space, at, 0));
+    store_spelled(space, dest, flat)
+}
+
+// The flat form of a list's element, or no numbers past the list's end.
+fn element_or_none(alloc: Global, space: &Space, list: u16, k: u32) -> Result<Flat, NoMemory>
+    requires named { IsSome (name_of space.now list) }
+    requires of_list { is_list (shape_of space.now list) ≡ true }
+    ensures within { k < length (elements (value_of space.now list)) → IfOk result (λ flat. flat ≡ flat_form (slice_index_or (elements (value_of space.now list)) k (Num (pos 0)))) }
+    ensures past { length (elements (value_of space.now list)) ≤ k → IfOk result (λ flat. flat ≡ []) }
+{
+    let mut flat = Flat::new(alloc);
+    if k < length_of(alloc, space, list) {
+        push_element(alloc, space, list, k, &mut flat)?;
+    }
+    Ok(flat)
+}
+
+/// Stores a list with an element, or with its elements from an index on (0 where it is left out), replaced by others.
+pub fn replace(
+    alloc: Global,
+    toc: &Toc,
+    space: &mut Space,
+    dest: u16,
+    list: u16,
+    at: u16,
+    new: u16,
+) -> Result<(), OpFault>
+    requires of { AreOf toc.now space.old }
+    requires dest { IsSome (name_of space.old dest) }
+    requires list { IsSome (name_of space.old list) }
+    requires new { IsSome (name_of space.old new) }
+    requires of_list { is_list (shape_of space.old list) ≡ true }
+    requires fit { convertible (shape_of space.old dest) (shape_of space.old list) ≡ true }
+    requires goes { goes_into (shape_of space.old list) (shape_of space.old new) ≡ true }
+    ensures { (d : Devices) → Does Done (values_stored space.old (place_of space.old dest ∷ []) (replace_means d (given space.old dest) (given space.old list) (given_or_left space.old at) (given space.old new))) space.old result space.new }
+{
+    let flat = overwritten(alloc, toc, space, list, word_or(space, at, 0), new);
+    store_spelled(space, dest, flat)
+}
+
+// The flat form of a list with others in place of its elements from an index on, as many as fit.
+fn overwritten(
+    alloc: Global,
+    toc: &Toc,
+    space: &Space,
+    list: u16,
+    at: u32,
+    new: u16,
+) -> Result<Flat, NoMemory>
+    requires of { AreOf toc.now space.now }
+    requires list { IsSome (name_of space.now list) }
+    requires new { IsSome (name_of space.now new) }
+    requires of_list { is_list (shape_of space.now list) ≡ true }
+    requires goes { goes_into (shape_of space.now list) (shape_of space.now new) ≡ true }
+    ensures { IfOk result (λ flat. flat ≡ flat_form (list_of (overwritten_elements (elements (value_of space.now list)) at (pieces (shape_of space.now list) (given space.now new))))) }
+{
+    let length = length_of(alloc, space, list);
+    let from = at.min(length);
+    let mut flat = Flat::new(alloc);
+    flat.push(i64::from(length))?;
+    push_elements(alloc, space, list, 0, from, &mut flat)?;
+    let count = push_pieces(alloc, toc, space, list, new, length - from, &mut flat)?;
+    push_elements(alloc, space, list, from + count, length, &mut flat)?;
+    Ok(flat)
+}
+
+/// Stores the length of a list in a number. It takes no memory.
+pub fn array_size(alloc: Global, toc: &Toc, space: &mut Space, dest: u16, list: u16)
+    requires of { AreOf toc.now space.old }
+    requires dest { IsSome (name_of space.old dest) }
+    requires list { IsSome (name_of space.old list) }
+    requires number { is_number (shape_of space.old dest) ≡ true }
+    ensures { (d : Devices) → Does Done (values_stored space.old (place_of space.old dest ∷ []) (size_means d (given space.old dest) (given space.old list))) space.old (Ok tt) space.new }
+{
+    let path = Path {
+        var: list,
+        steps: Flat::new(alloc),
+    };
+    let length = space.length(&path);
+    space.set(dest, i64::from(length));
+}
+
+/// Stores the elements of a list from an index on (0 where it is left out), up to a number of them (all where it is left out).
+pub fn subset(
+    alloc: Global,
+    toc: &Toc,
+    space: &mut Space,
+    dest: u16,
+    list: u16,
+    at: u16,
+    count: u16,
+) -> Result<(), OpFault>
+    requires of { AreOf toc.now space.old }
+    requires dest { IsSome (name_of space.old dest) }
+    requires list { IsSome (name_of space.old list) }
+    requires of_list { is_list (shape_of space.old list) ≡ true }
+    requires fit { convertible (shape_of space.old dest) (shape_of space.old list) ≡ true }
+    ensures { (d : Devices) → Does Done (values_stored space.old (place_of space.old dest ∷ []) (subset_means d (given space.old dest) (given space.old list) (given_or_left space.old at) (given_or_left space.old count))) space.old result space.new }
+{
+    let length = length_of(alloc, space, list);
+    let from = word_or(space, at, 0).min(length);
+    let count = word_or(space, count, length).min(length - from);
+    let flat = list_between(alloc, space, list, from, from + count);
+    store_spelled(space, dest, flat)
+}
+
+// The flat form of the list of a list's elements from one index up to another.
+fn list_between(
+    alloc: Global,
+    space: &Space,
+    list: u16,
+    from: u32,
+    to: u32,
+) -> Result<Flat, NoMemory>
+    requires named { IsSome (name_of space.now list) }
+    requires of_list { is_list (shape_of space.now list) ≡ true }
+    requires ordered { from ≤ to }
+    requires within { to ≤ length (elements (value_of space.now list)) }
+    ensures { IfOk result (λ flat. flat ≡ flat_form (list_of (slice_range (elements (value_of space.now list)) from to))) }
+{
+    let mut flat = Flat::new(alloc);
+    flat.push(i64::from(to - from))?;
+    push_elements(alloc, space, list, from, to, &mut flat)?;
+    Ok(flat)
+}

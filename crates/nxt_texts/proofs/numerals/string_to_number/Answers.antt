@@ -1,0 +1,67 @@
+-- The number that is found, or the default, is stored, and then the place.
+use Rattle.std.proofs.Common.{◌≡◌, ℕ, ◌+◌, ◌≤◌, ℤ, length, drop, ap, ap₂, ◌∙◌, subst, sym, arith, w64, to_z, of_z, to_z-of_z}
+use Rattle.std.specs.Prelude.{pos, ◌+ℤ◌, option_map}
+use Rattle.std.specs.Option.{unwrap_or}
+use Rattle.std.proofs.lemmas.Int.{to_z_pos}
+use Rattle.nxt_model.specs.Footprint.{pool_size}
+use Rattle.nxt_model.specs.Means.Effects.{word_or}
+use Rattle.nxt_model.specs.Means.Text.{body, number_at}
+use Rattle.nxt_model.specs.Values.{Num, stored}
+use Rattle.nxt_space.specs.Variables.{shape_of, with_value}
+use Rattle.nxt_ops.specs.Operands.{given_or_left}
+use Rattle.nxt_texts.specs.Numerals.{numeral, numeral_at, with_number}
+use Rattle.nxt_texts.specs.Texts.{body_at}
+use Rattle.nxt_texts.specs.declared.numerals.Numeral.{Numeral}
+use Rattle.nxt_texts.proofs.Found.{default_numeral, found_short, found_stored}
+use Rattle.nxt_texts.proofs.numerals.string_to_number.Goals as goal
+
+pub returns : goal.returns
+returns c d =
+    let s = c.args.space.now in
+    let at = word_or 0 (given_or_left s c.args.offset) in
+    let default = given_or_left s c.args.default in
+    let found = c.unwrap_or-found.result in
+    let place = c.word_or-at.result in
+    let rest : c.behind.result.now ≡ drop at (body_at s c.args.source) =
+    c.behind.ensures.bytes
+    ∙ ap₂ drop c.word_or-at.ensures (c.body.ensures.body ∙ ap body (c.as_slice.ensures ∙ c.in-Ok.ensures.bytes))
+    in
+    let read : found ≡ unwrap_or (option_map numeral (number_at (drop at (body_at s c.args.source)))) (default_numeral default) =
+    c.unwrap_or-found.ensures
+    ∙ ap₂ {B = ℕ} (λ o n. unwrap_or o (record { word = n; length = 0 })) (c.numeral_at.ensures.numeral ∙ ap numeral_at rest) c.word_or.ensures
+    in
+    let fits : length c.behind.result.now ≤ pool_size =
+    omega (arith, c.behind.ensures.within, c.body.ensures.within, ap length c.as_slice.ensures, c.in-Ok.ensures.few)
+    in
+    let short : found.length ≤ pool_size =
+    subst
+    (λ (n : Numeral). n.length ≤ pool_size)
+    (sym c.unwrap_or-found.ensures)
+    (found_short c.numeral_at.result (record { word = c.word_or.result; length = 0 }) (length c.behind.result.now) pool_size c.numeral_at.ensures.within fits (omega arith))
+    in
+    let word : to_z w64 (of_z w64 c.from.result) ≡ pos found.word = to_z-of_z {w = w64} {z = c.from.result} (record { sfits = c.from.type_inv }) ∙ c.from.ensures in
+    let behind : to_z w64 (of_z w64 (to_z w64 (of_z w64 c.from-2.result) +ℤ to_z w64 found.length)) ≡ pos (place + found.length) =
+    ap₂
+    (λ a b. to_z w64 (of_z w64 (a +ℤ b)))
+    (to_z-of_z {w = w64} {z = c.from-2.result} (record { sfits = c.from-2.type_inv }) ∙ c.from-2.ensures)
+    (to_z_pos w64 found.length (omega (arith, short)))
+    ∙ to_z_pos w64 (place + found.length) (omega (arith, short, c.word_or-at.type_inv))
+    in
+    found_stored
+    s
+    c.set.new.self
+    c.set_unless_left_out.new.space
+    c.args.dest
+    c.args.past
+    at
+    default
+    (number_at (drop at (body_at s c.args.source)))
+    found
+    d
+    c.requires.of.sound
+    c.requires.number
+    c.requires.past
+    read
+    (c.set.ensures ∙ ap {A = ℤ} (λ z. record s { values = with_value s c.args.dest (stored (shape_of s c.args.dest) (Num z)) }) word)
+    (c.set_unless_left_out.ensures
+    ∙ ap (with_number c.set.new.self c.args.past) (behind ∙ ap (λ n. pos (n + found.length)) c.word_or-at.ensures))

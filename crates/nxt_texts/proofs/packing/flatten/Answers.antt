@@ -1,0 +1,12 @@
+-- The value's bytes are stored.
+use Rattle.std.proofs.Common.{◌∙◌, subst}
+use Rattle.nxt_model.specs.Means.Text.{ended}
+use Rattle.nxt_texts.specs.Texts.{StoresBytes}
+use Rattle.nxt_texts.proofs.packing.flatten.Goals as goal
+
+pub returns : goal.returns
+returns c =
+    subst
+    (λ bs. StoresBytes c.args.space.now c.args.dest (ended bs) c.store_text.result c.store_text.new.space)
+    (c.as_slice.ensures ∙ c.in-Ok.ensures)
+    c.store_text.ensures

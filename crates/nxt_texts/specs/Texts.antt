@@ -1,0 +1,46 @@
+-- Texts among the variables, and how statements that store bytes end.
+use Rattle.std.specs.Prelude.{ℕ, List, [], ◌∷◌, map, length, ℤ, pos, ◌≤ℤ◌}
+use Rattle.std.specs.List.{flat_map}
+use Rattle.std.specs.declared.result.Result.{Result}
+use Rattle.nxt_types.specs.Shapes.{Shape, Array}
+use Rattle.nxt_model.specs.Devices.{Devices}
+use Rattle.nxt_model.specs.Means.Effects.{gives}
+use Rattle.nxt_model.specs.Means.Text.{body}
+use Rattle.nxt_model.specs.Values.{byte_list, bytes_of}
+use Rattle.nxt_space.specs.Variables.{Variables, value_of}
+use Rattle.nxt_space.specs.Outcomes.{Does}
+use Rattle.nxt_space.specs.declared.fault.OpFault.{OpFault}
+use Rattle.nxt_ops.specs.Ops.{Done, given}
+use Rattle.nxt_ops.specs.Operands.{place_of, values_stored}
+
+-- ---- texts
+
+-- the bytes of the text that begins at an entry
+abbrev pub text_at : Variables → ℕ → List ℕ
+text_at s i = bytes_of (value_of s i)
+
+abbrev pub body_at : Variables → ℕ → List ℕ
+body_at s i = body (text_at s i)
+
+-- the bodies of texts, one after another
+abbrev pub bodies_at : Variables → List ℕ → List ℕ
+bodies_at s is = flat_map (body_at s) is
+
+abbrev pub IsByte : ℤ → Type 0
+IsByte z = (pos 0 ≤ℤ z) × (z ≤ℤ pos 255)
+
+-- how far the elements of a list stand apart
+abbrev pub stride_of : Shape → ℕ
+stride_of (Array n s) = n
+stride_of _ = 0
+
+-- ---- what is stored
+
+-- the flat form of a list of bytes
+abbrev pub flat_bytes : List ℕ → List ℤ
+flat_bytes bytes = pos (length bytes) ∷ map pos bytes
+
+-- the statement stores these bytes at an entry
+abbrev pub StoresBytes : Variables → ℕ → List ℕ → Result Unit OpFault → Variables → Type 0
+StoresBytes old dest bytes result new =
+    (d : Devices) → Does Done (values_stored old (place_of old dest ∷ []) (gives (given old dest) (byte_list bytes) d)) old result new

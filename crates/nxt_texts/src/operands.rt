@@ -1,0 +1,21 @@
+// Destinations that may be left out.
+
+ghost use Rattle.std.specs.Prelude.{◌≡◌, ◌==◌, true, false};
+ghost use Rattle.nxt_types.specs.Shapes.{is_number};
+ghost use Rattle.nxt_space.specs.Variables.{shape_of};
+ghost use Rattle.nxt_texts.specs.Numerals.{with_number};
+
+use nxt_space::Space;
+
+/// The operand's word that leaves it out.
+const LEFT_OUT: u16 = 0xFFFF;
+
+/// Stores a number, cut to its kind, where the operand isn't left out.
+pub fn set_unless_left_out(space: &mut Space, i: u16, number: i64)
+    requires { (i == 0xFFFF) ≡ false → is_number (shape_of space.old i) ≡ true }
+    ensures { space.new ≡ with_number space.old i number }
+{
+    if i != LEFT_OUT {
+        space.set(i, number);
+    }
+}

@@ -1,0 +1,181 @@
+// Statements from texts to texts.
+
+ghost use Rattle.std.specs.Prelude.{◌≡◌, ◌∷◌, ◌*◌, ◌<◌, ◌^◌, [], true, map, length, All, IfOk, IsSome};
+ghost use Rattle.nxt_types.specs.Calls.{is_text};
+ghost use Rattle.nxt_types.specs.Shapes.{tree};
+ghost use Rattle.nxt_model.specs.Devices.{Devices};
+ghost use Rattle.nxt_model.specs.Means.Strings.{concatenate as concatenate_means, substring as substring_means, string_to_array as to_array_means, array_to_string as to_string_means};
+ghost use Rattle.nxt_model.specs.Footprint.{round4};
+ghost use Rattle.nxt_space.specs.Variables.{AreSound, name_of, shape_of};
+ghost use Rattle.nxt_space.specs.Outcomes.{Does};
+ghost use Rattle.nxt_ops.specs.Ops.{AreOf, Done, given, shape_in};
+ghost use Rattle.nxt_ops.specs.Operands.{given_or_left, place_of, values_stored};
+ghost use Rattle.nxt_texts.specs.Texts.{bodies_at, stride_of};
+
+use crate::text::{body, section, store_bytes, store_text, text_of};
+use nxt_ops::operands::word_or;
+use nxt_space::{OpFault, Space};
+use nxt_types::shape::Shape;
+use nxt_types::toc::Toc;
+use nxt_types::{Bytes, NoMemory};
+use std::alloc::Global;
+
+/// Stores the bodies of texts, one after another, and a zero.
+pub fn concatenate(
+    alloc: Global,
+    toc: &Toc,
+    space: &mut Space,
+    dest: u16,
+    sources: &[u16],
+) -> Result<(), OpFault>
+    requires of { AreOf toc.now space.old }
+    requires dest { IsSome (name_of space.old dest) }
+    requires text { is_text (shape_of space.old dest) ≡ true }
+    requires few { length sources.now < 2 ^ 16 }
+    requires sources { All (λ i. IsSome (name_of space.old i)) sources.now }
+    requires texts { All (λ i. is_text (shape_of space.old i) ≡ true) sources.now }
+    ensures { (d : Devices) → Does Done (values_stored space.old (place_of space.old dest ∷ []) (concatenate_means d (given space.old dest ∷ map (given space.old) sources.now))) space.old result space.new }
+{
+    let Ok(length) = bodies_length(alloc, space, sources) else {
+        return Err(OpFault::NoMemory);
+    };
+
+    // The pool is asked before the bodies are put together, since they may be far longer than it.
+    let block = block_bytes(length + 1, stride_at(toc, dest));
+    if let Err(passed) = space.room(dest, block, 1) {
+        return Err(OpFault::PoolPassed(passed.0));
+    }
+
+    let Ok(bytes) = bodies(alloc, space, sources) else {
+        return Err(OpFault::NoMemory);
+    };
+    store_text(alloc, space, dest, bytes.as_slice())
+}
+
+/// Stores the part of a text's body from an index on (0 where it is left out), up to a number of bytes (all where it is left
+/// out), and a zero.
+pub fn substring(
+    alloc: Global,
+    toc: &Toc,
+    space: &mut Space,
+    dest: u16,
+    source: u16,
+    at: u16,
+    count: u16,
+) -> Result<(), OpFault>
+    requires of { AreOf toc.now space.old }
+    requires dest { IsSome (name_of space.old dest) }
+    requires source { IsSome (name_of space.old source) }
+    requires text { is_text (shape_of space.old dest) ≡ true }
+    requires source_text { is_text (shape_of space.old source) ≡ true }
+    ensures { (d : Devices) → Does Done (values_stored space.old (place_of space.old dest ∷ []) (substring_means d (given space.old dest) (given space.old source) (given_or_left space.old at) (given_or_left space.old count))) space.old result space.new }
+{
+    let Ok(text) = text_of(alloc, space, source) else {
+        return Err(OpFault::NoMemory);
+    };
+    let bytes = body(text.as_slice());
+    let at = word_or(space, at, 0);
+    let count = word_or(space, count, bytes.len() as u32);
+    store_text(alloc, space, dest, section(bytes, at, count))
+}
+
+/// Stores a text's body.
+pub fn string_to_array(
+    alloc: Global,
+    toc: &Toc,
+    space: &mut Space,
+    dest: u16,
+    source: u16,
+) -> Result<(), OpFault>
+    requires of { AreOf toc.now space.old }
+    requires dest { IsSome (name_of space.old dest) }
+    requires source { IsSome (name_of space.old source) }
+    requires text { is_text (shape_of space.old dest) ≡ true }
+    requires source_text { is_text (shape_of space.old source) ≡ true }
+    ensures { (d : Devices) → Does Done (values_stored space.old (place_of space.old dest ∷ []) (to_array_means d (given space.old dest) (given space.old source))) space.old result space.new }
+{
+    let Ok(text) = text_of(alloc, space, source) else {
+        return Err(OpFault::NoMemory);
+    };
+    store_bytes(alloc, space, dest, body(text.as_slice()))
+}
+
+/// Stores all bytes of a list, and a zero.
+pub fn array_to_string(
+    alloc: Global,
+    toc: &Toc,
+    space: &mut Space,
+    dest: u16,
+    source: u16,
+) -> Result<(), OpFault>
+    requires of { AreOf toc.now space.old }
+    requires dest { IsSome (name_of space.old dest) }
+    requires source { IsSome (name_of space.old source) }
+    requires text { is_text (shape_of space.old dest) ≡ true }
+    requires source_text { is_text (shape_of space.old source) ≡ true }
+    ensures { (d : Devices) → Does Done (values_stored space.old (place_of space.old dest ∷ []) (to_string_means d (given space.old dest) (given space.old source))) space.old result space.new }
+{
+    let Ok(text) = text_of(alloc, space, source) else {
+        return Err(OpFault::NoMemory);
+    };
+    store_text(alloc, space, dest, text.as_slice())
+}
+
+// How many bytes the bodies of texts have.
+fn bodies_length(alloc: Global, space: &Space, sources: &[u16]) -> Result<u64, NoMemory>
+    requires sound { AreSound space.now }
+    requires few { length sources.now < 2 ^ 16 }
+    requires sources { All (λ i. IsSome (name_of space.now i)) sources.now }
+    requires texts { All (λ i. is_text (shape_of space.now i) ≡ true) sources.now }
+    ensures length { IfOk result (λ n. n ≡ length (bodies_at space.now sources.now)) }
+    ensures few { IfOk result (λ n. n < 2 ^ 31) }
+{
+    let mut length = 0;
+    for source in sources {
+        let text = text_of(alloc, space, *source)?;
+        length += body(text.as_slice()).len() as u64;
+    }
+    Ok(length)
+}
+
+// The bodies of texts, one after another.
+fn bodies(alloc: Global, space: &Space, sources: &[u16]) -> Result<Bytes, NoMemory>
+    requires sound { AreSound space.now }
+    requires sources { All (λ i. IsSome (name_of space.now i)) sources.now }
+    requires texts { All (λ i. is_text (shape_of space.now i) ≡ true) sources.now }
+    ensures { IfOk result (λ bytes. bytes ≡ bodies_at space.now sources.now) }
+{
+    let mut bytes = Bytes::new(alloc);
+    for source in sources {
+        let text = text_of(alloc, space, *source)?;
+        bytes.append(body(text.as_slice()))?;
+    }
+    Ok(bytes)
+}
+
+// How many bytes the elements of the list that begins at an entry stand apart.
+fn stride_at(toc: &Toc, i: u16) -> u32
+    ensures { result ≡ stride_of (shape_in toc.now i) }
+{
+    match toc.shape(i) {
+        Some(shape) => stride(shape),
+        None => 0,
+    }
+}
+
+fn stride(shape: &Shape) -> u32
+    ensures { result ≡ stride_of (tree shape.now) }
+{
+    match shape {
+        Shape::List(stride, _) => *stride,
+        Shape::Void | Shape::Num(_) | Shape::Group(_) | Shape::Mutex => 0,
+    }
+}
+
+// The bytes of the pool that a list of so many elements takes.
+fn block_bytes(count: u64, stride: u32) -> u64
+    requires { count < 2 ^ 32 }
+    ensures { result ≡ round4 (count * stride) }
+{
+    (count * u64::from(stride)).div_ceil(4) * 4
+}
