@@ -1,32 +1,21 @@
 -- The program that is made of an accepted file.
-use Rattle.std.proofs.Common.{◌≡◌, ℕ, true, false, cond, ◌&&◌, ◌==◌, List, [], ◌∷◌, refl, sym, ap, ◌∙◌}
-use Rattle.std.proofs.lemmas.Bool.{and_parts, and_from, eqb-true}
+use Rattle.std.proofs.Common.{◌≡◌, ℕ, true, false, ◌&&◌, ◌==◌, List, [], ◌∷◌, length, sym, ap, ◌∙◌}
+use Rattle.std.proofs.lemmas.Bool.{and_parts, and_from, eqb-true, false_from_ne_true}
 use Rattle.std.proofs.lemmas.List.{nil_from_length}
-use Rattle.nxt_types.specs.declared.kind.Kind.{Kind}
+use Rattle.nxt_types.specs.Refusals.{IsAccepted}
 use Rattle.nxt_types.specs.declared.lists.ClumpRec.{ClumpRec}
-use Rattle.nxt_types.specs.Shapes.{Members, some_list}
-use Rattle.nxt_types.specs.Statements.{Statement, statements}
+use Rattle.nxt_types.specs.Shapes.{Members}
+use Rattle.nxt_types.specs.Statements.{statements}
 use Rattle.nxt_rxe.specs.declared.parts.Parts.{Parts}
 use Rattle.nxt_rxe.specs.Files.{HasCounts, dependent_count}
+use Rattle.nxt_code.specs.CodeRules.{Broken, is_bad_operand}
+use Rattle.nxt_code.specs.declared.fault.CodeFault.TheVariants.{Operand}
 use Rattle.nxt_layout.specs.Layouts.{FileLayout, IsLayout}
-use Rattle.nxt_layout.specs.Dataspace.{memory}
 use Rattle.nxt_layout.specs.Start.{file_rows}
-use Rattle.nxt_model.specs.Reading.{row_count}
 use Rattle.nxt_space.specs.Variables.{Variables, at_start}
-use Rattle.nxt_tool.specs.First.{are_first, is_only_clump, are_numbers, runs}
-use Rattle.nxt_tool.specs.Numbers.{shapes_of}
-use Rattle.nxt_tool.specs.Accepted.{image_of}
+use Rattle.nxt_tool.specs.First.{are_built, is_only_clump, runs}
+use Rattle.nxt_tool.specs.Accepted.{code_in, image_of}
 use Rattle.nxt_tool.specs.Plain.{only_clump, image_of as plain_image}
-
--- ---- numbers
-
-numbers_are : (kinds : List Kind) → are_numbers (shapes_of kinds) ≡ true
-numbers_are [] = refl
-numbers_are (k ∷ ks) = numbers_are ks
-
-no_lists : (kinds : List Kind) → some_list (shapes_of kinds) ≡ false
-no_lists [] = refl
-no_lists (k ∷ ks) = no_lists ks
 
 -- ---- the only clump
 
@@ -51,22 +40,19 @@ no_dependents p counts e = nil_from_length p.dependents (counts.dependents ∙ a
 
 -- ---- the program
 
-pub made_runs : (p : Parts) (ss : Members) (kinds : List Kind) (code : List (ℕ × Statement)) → is_only_clump p.clumps ≡ true → ss ≡ shapes_of kinds → code ≡ statements p.code → are_first code ≡ true → runs p ss ≡ true
-made_runs p ss kinds code only shapes is first =
-    and_from
-    (is_only_clump p.clumps)
-    (are_numbers ss && are_first (statements p.code))
-    only
-    (and_from (are_numbers ss) (are_first (statements p.code)) (ap are_numbers shapes ∙ numbers_are kinds) (ap are_first (sym is) ∙ first))
+pub made_runs : (p : Parts) (ss : Members) → is_only_clump p.clumps ≡ true → are_built ss (statements p.code) ≡ true → runs p ss ≡ true
+made_runs p ss only built = and_from (is_only_clump p.clumps) (are_built ss (statements p.code)) only built
 
-one_row : (p : Parts) (ss : Members) (kinds : List Kind) → ss ≡ shapes_of kinds → file_rows p ss ≡ 1
-one_row p ss kinds e = ap (λ b. cond b (row_count (memory p ss)) 1) (ap some_list e ∙ no_lists kinds)
+-- no operand of accepted code is bad
+pub none_bad : (p : Parts) (ss : Members) → IsAccepted (Broken (code_in p ss)) → (w k : ℕ) → is_bad_operand ss (length p.clumps) p.code w k ≡ false
+none_bad p ss accepted w k = false_from_ne_true (is_bad_operand ss (length p.clumps) p.code w k) (λ e. accepted (Operand w k) e)
 
-pub made_image : (p : Parts) (l : FileLayout) (made : IsLayout p l) (kinds : List Kind) (s : Variables) (words : List ℕ) → HasCounts p → is_only_clump p.clumps ≡ true → l.shapes ≡ shapes_of kinds → s ≡ at_start l made.vars → words ≡ p.code → plain_image s words ≡ image_of p l.shapes made.vars
-made_image p l made kinds s words counts only shapes start code =
-    let rows = one_row p l.shapes kinds shapes in
+pub made_image : (p : Parts) (l : FileLayout) (made : IsLayout p l) (s : Variables) (words : List ℕ) → HasCounts p → is_only_clump p.clumps ≡ true → s ≡ at_start l made.vars → words ≡ p.code → plain_image s words ≡ image_of p l.shapes made.vars
+made_image p l made s words counts only start code =
     let clumps = clumps_are p.clumps only in
     let dependents = no_dependents p counts only in
+    let shapes : l.shapes ≡ made.shapes = ap (λ (x : FileLayout). x.shapes) made.layout in
+    let rows : l.rows ≡ file_rows p l.shapes = ap (λ (x : FileLayout). x.rows) made.layout ∙ ap (file_rows p) (sym shapes) in
     let entries : l.entries ≡ p.toc = ap (λ (x : FileLayout). x.entries) made.layout in
     let static_size : l.static_size ≡ p.header.static_size = ap (λ (x : FileLayout). x.static_size) made.layout in
     cc

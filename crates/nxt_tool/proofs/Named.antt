@@ -1,78 +1,77 @@
--- Numbers as the members of one group: what words name, and what is read and stored there.
-use Rattle.std.proofs.Common.{◌≡◌, ℕ, zero, suc, ◌+◌, ◌-◌, ◌<◌, ◌≤◌, List, [], ◌∷◌, length, get_or, map, Bool, true, false, Option, Some, None, refl, sym, ap, ◌∙◌, arith}
-use Rattle.std.proofs.lemmas.List.{map-set}
-use Rattle.std.proofs.Math.ListN.{get_or-map}
-use Rattle.std.specs.Prelude.{ℤ, pos, nat_lt, if◌then◌else◌, ◌&&◌}
-use Rattle.nxt_types.specs.declared.kind.Kind.{Kind}
-use Rattle.nxt_types.specs.declared.kind.Kind.TheVariants.{Ubyte}
-use Rattle.nxt_types.specs.Arithmetic.{cut}
-use Rattle.nxt_types.specs.Shapes.{Number}
-use Rattle.nxt_types.specs.Names.{Name, name_among, named}
-use Rattle.nxt_model.specs.Values.{Value, Num, number, group_of, with_part}
-use Rattle.nxt_model.proofs.ValueLemmas.{part-member, with_part-member}
-use Rattle.nxt_model.specs.Means.Effects.{value_of, shape_of, store}
-use Rattle.nxt_model.specs.Means.Numbers.{signed_kind}
-use Rattle.nxt_model.specs.Variables.{Reference, PartOf, Absent, part_of, read, put_all}
-use Rattle.nxt_tool.specs.Numbers.{shapes_of, vars_of, variable_in, number_of, signed_of, with_number}
+-- What words name: numbers, and whether a stop stops.
+use Rattle.std.proofs.Common.{◌≡◌, ℕ, zero, suc, ◌<◌, ◌≤◌, Bool, true, false, not, ◌==◌, List, [], ◌∷◌, length, drop, Option, Some, None, refl, sym, ap, ap₂, ◌∙◌, arith}
+use Rattle.std.proofs.lemmas.Bool.Decides.{nat_tests}
+use Rattle.std.specs.Prelude.{ℤ, pos, nat_lt, if◌then◌else◌, slice_index_or}
+use Rattle.nxt_types.specs.Arithmetic.{word}
+use Rattle.nxt_types.specs.Names.{Name}
+use Rattle.nxt_model.specs.Devices.{set_property}
+use Rattle.nxt_model.specs.Means.Effects.{value_of as value_given}
+use Rattle.nxt_model.specs.Step.{stops_at}
+use Rattle.nxt_model.specs.Values.{Value, number}
+use Rattle.nxt_model.specs.Variables.{Absent, part_of, read}
+use Rattle.nxt_space.specs.Variables.{Variables, name_of, value_of, value_by}
+use Rattle.nxt_tool.specs.Numbers.{number_at, halts, with_pairs}
 
-abbrev pub number_name : List Kind → ℕ → Name
-number_name ks i = record { path = i ∷ []; shape = Number (get_or ks i Ubyte) }
+-- ---- numbers
 
--- what a variable, or none, is for the plain machine
-abbrev pub reference : List Kind → Option ℕ → Reference
-reference ks None = Absent
-reference ks (Some i) = PartOf (number_name ks i)
+number_by : (o : Option Name) (vars : Value) → number (value_given (read vars (part_of o))) ≡ number (value_by o vars)
+number_by None vars = refl
+number_by (Some n) vars = refl
 
-pub among : (ks : List Kind) (k i : ℕ) → i < length ks → name_among (shapes_of ks) k i ≡ Some (record { path = (k + i) ∷ []; shape = Number (get_or ks i Ubyte) })
-among [] k i h = let f : ⊥ = omega (arith, h) in absurd f
-among (a ∷ ks) k zero h = let e : k ≡ k + 0 = omega arith in ap (λ n. Some (record { path = n ∷ []; shape = Number a })) e
-among (a ∷ ks) k (suc i) h =
-    let less : i < length ks = omega (arith, h) in
-    let e : k + 1 + i ≡ k + suc i = omega arith in
-    let past : nat_lt (suc i) 1 ≡ false = grind arith in
-    let c : suc i - 1 ≡ i = omega arith in
-    rw (past, c) (among ks (k + 1) i less ∙ ap (λ n. Some (record { path = n ∷ []; shape = Number (get_or ks i Ubyte) })) e)
+-- by whether the word is an entry's number
+abbrev number_if : Variables → ℕ → Bool → ℤ
+number_if s w b = number (value_given (read s.values (part_of (if b then name_of s w else None))))
 
-beyond : (ks : List Kind) (k i : ℕ) → length ks ≤ i → name_among (shapes_of ks) k i ≡ None
-beyond [] k i h = refl
-beyond (a ∷ ks) k zero h = let f : ⊥ = omega (arith, h) in absurd f
-beyond (a ∷ ks) k (suc i) h =
-    let less : length ks ≤ i = omega (arith, h) in
-    let past : nat_lt (suc i) 1 ≡ false = grind arith in
-    let c : suc i - 1 ≡ i = omega arith in
-    rw (past, c) (beyond ks (k + 1) i less)
+pub number_there : (s : Variables) (w : ℕ) → nat_lt w 0xC000 ≡ true → number_at s w ≡ number (value_of s w)
+number_there s w e = ap (number_if s w) e ∙ number_by (name_of s w) s.values
 
-by_test : (ks : List Kind) (i : ℕ) (b : Bool) → nat_lt i (length ks) ≡ b → part_of (name_among (shapes_of ks) 0 i) ≡ reference ks (if b then Some i else None)
-by_test ks i true e =
-    let h : i < length ks = grind (arith, e) in
-    let z : 0 + i ≡ i = omega arith in
-    ap part_of (among ks 0 i h ∙ ap (λ n. Some (record { path = n ∷ []; shape = Number (get_or ks i Ubyte) })) z)
-by_test ks i false e =
-    let h : length ks ≤ i = grind (arith, e) in
-    ap part_of (beyond ks 0 i h)
+pub number_past : (s : Variables) (w : ℕ) → nat_lt w 0xC000 ≡ false → number_at s w ≡ pos 0
+number_past s w e = ap (number_if s w) e
 
-by_limit : (ks : List Kind) (i : ℕ) (b : Bool) → part_of (if b then name_among (shapes_of ks) 0 i else None) ≡ reference ks (if b && nat_lt i (length ks) then Some i else None)
-by_limit ks i true = by_test ks i (nat_lt i (length ks)) refl
-by_limit ks i false = refl
+-- ---- stops
 
--- what a word names, of these numbers
-pub named_number : (ks : List Kind) (i : ℕ) → part_of (named (shapes_of ks) i) ≡ reference ks (variable_in (length ks) (Some i))
-named_number ks i = by_limit ks i (nat_lt i 0xC000)
+abbrev halts_if : Variables → ℕ → Bool → Bool → Bool
+halts_if s w left named = stops_at (read s.values (if left then Absent else part_of (if named then name_of s w else None)))
 
--- the number that stands there
-pub number_read : (ks : List Kind) (zs : List ℤ) (v : Option ℕ) → number (value_of (read (vars_of zs) (reference ks v))) ≡ number_of zs v
-number_read ks zs None = refl
-number_read ks zs (Some i) = ap number (part-member i (map Num zs) ∙ get_or-map Num zs i (pos 0))
+pub halts_past : (s : Variables) (w : ℕ) → nat_lt w 0xC000 ≡ false → halts s w ≡ true
+halts_past s w e = ap (halts_if s w (w == 0xFFFF)) e ∙ by_test (w == 0xFFFF)
+  where
+    by_test : (b : Bool) → halts_if s w b false ≡ true
+    by_test true = refl
+    by_test false = refl
 
-pub sign_read : (ks : List Kind) (zs : List ℤ) (v : Option ℕ) → signed_kind (shape_of (read (vars_of zs) (reference ks v))) ≡ signed_of ks v
-sign_read ks zs None = refl
-sign_read ks zs (Some i) = refl
+halts_there : (s : Variables) (w : ℕ) → nat_lt w 0xC000 ≡ true → halts s w ≡ stops_at (read s.values (part_of (name_of s w)))
+halts_there s w e =
+    let kept : (w == 0xFFFF) ≡ false = grind (arith, nat_tests, e) in
+    ap (λ b. halts_if s w b (nat_lt w 0xC000)) kept ∙ ap (halts_if s w false) e
 
--- the numbers after a store there, by the first operand
-pub number_stored : (ks : List Kind) (zs : List ℤ) (o : Option ℕ) (rs : List Reference) (v : Value) (w : ℤ) → number v ≡ w →
-    put_all (reference ks o ∷ rs) (store 0 (read (vars_of zs) (reference ks o)) v) (vars_of zs) ≡ vars_of (with_number ks o w zs)
-number_stored ks zs None rs v w e = refl
-number_stored ks zs (Some i) rs v w e =
-    ap (λ x. with_part (i ∷ []) (Num (cut (get_or ks i Ubyte) x)) (vars_of zs)) e
-    ∙ with_part-member i (Num (cut (get_or ks i Ubyte) w)) (map Num zs)
-    ∙ ap (λ vs. group_of vs) (sym (map-set Num zs i (cut (get_or ks i Ubyte) w)))
+pub halts_none : (s : Variables) (w : ℕ) → nat_lt w 0xC000 ≡ true → name_of s w ≡ None → halts s w ≡ true
+halts_none s w e none = halts_there s w e ∙ ap (λ o. stops_at (read s.values (part_of o))) none
+
+pub halts_some : (s : Variables) (w : ℕ) (n : Name) → nat_lt w 0xC000 ≡ true → name_of s w ≡ Some n → halts s w ≡ not (word (number (value_of s w)) == 0)
+halts_some s w n e some =
+    halts_there s w e
+    ∙ ap (λ o. stops_at (read s.values (part_of o))) some
+    ∙ sym (ap (λ o. not (word (number (value_by o s.values)) == 0)) some)
+
+-- ---- pairs
+
+pair_more : (s : Variables) (xs : List ℕ) (k : ℕ) (m : List ℤ) → suc k < length xs →
+    with_pairs s (drop (suc (suc k)) xs) (set_property (slice_index_or xs k 0) (number_at s (slice_index_or xs (suc k) 0)) m) ≡ with_pairs s (drop k xs) m
+pair_more s [] k m h = let f : ⊥ = omega (arith, h) in absurd f
+pair_more s (x ∷ []) zero m h = let f : ⊥ = omega (arith, h) in absurd f
+pair_more s (x ∷ y ∷ xs) zero m h = refl
+pair_more s (x ∷ xs) (suc k) m h = pair_more s xs k m (omega (arith, h))
+
+-- a pair stands at k and behind it
+pub pairs_more : (s : Variables) (xs : List ℕ) (k j l : ℕ) (m : List ℤ) → j ≡ suc k → l ≡ suc (suc k) → j < length xs →
+    with_pairs s (drop l xs) (set_property (slice_index_or xs k 0) (number_at s (slice_index_or xs j 0)) m) ≡ with_pairs s (drop k xs) m
+pairs_more s xs k j l m e f h =
+    ap₂ (λ a b. with_pairs s (drop b xs) (set_property (slice_index_or xs k 0) (number_at s (slice_index_or xs a 0)) m)) e f ∙ pair_more s xs k m (omega (arith, e, h))
+
+pub pairs_done : (s : Variables) (xs : List ℕ) (k : ℕ) (m : List ℤ) → length xs ≤ suc k → with_pairs s (drop k xs) m ≡ m
+pairs_done s [] zero m h = refl
+pairs_done s [] (suc k) m h = refl
+pairs_done s (x ∷ []) zero m h = refl
+pairs_done s (x ∷ y ∷ xs) zero m h = let f : ⊥ = omega (arith, h) in absurd f
+pairs_done s (x ∷ xs) (suc k) m h = pairs_done s xs k m (omega (arith, h))

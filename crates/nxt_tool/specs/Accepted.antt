@@ -7,7 +7,7 @@ use Rattle.nxt_rxe.specs.Files.{IsFile}
 use Rattle.nxt_rxe.specs.FileRules as file_rules
 use Rattle.nxt_layout.specs.LayoutRules as layout_rules
 use Rattle.nxt_layout.specs.Layouts.{FileLayout, IsLayout}
-use Rattle.nxt_layout.specs.Start.{HasShapes, StartsAs, file_rows, start_footprint}
+use Rattle.nxt_layout.specs.Start.{HasShapes, StartsAs, rows_at_start, start_footprint}
 use Rattle.nxt_code.specs.CodeRules as code_rules
 use Rattle.nxt_model.specs.Image.{Image}
 use Rattle.nxt_model.specs.Values.{Value}
@@ -37,7 +37,7 @@ image_of p ss vars =
       entries = p.toc;
       shapes = ss;
       values = vars;
-      rows = file_rows p ss;
+      rows = rows_at_start p ss vars;
       static_size = p.header.static_size;
       clumps = p.clumps;
       dependents = p.dependents;

@@ -1,7 +1,7 @@
--- Programs of numbers with one clump, and their states.
-use Rattle.std.specs.Prelude.{◌≡◌, ℕ, List, [], ◌∷◌, replicate, ℤ, IsTrue, Option, Some}
-use Rattle.nxt_types.specs.Statements.{statements}
-use Rattle.nxt_types.specs.declared.kind.Kind.{Kind}
+-- Programs with one clump, and their states.
+use Rattle.std.specs.Prelude.{◌≡◌, ◌<◌, ℕ, true, List, [], ◌∷◌, length, slice_get, replicate, ℤ, Option, Some}
+use Rattle.nxt_types.specs.Shapes.{Members}
+use Rattle.nxt_types.specs.Statements.{Statement, statements}
 use Rattle.nxt_types.specs.declared.lists.ClumpRec.{ClumpRec}
 use Rattle.nxt_model.specs.declared.line.Stop.{Stop}
 use Rattle.nxt_model.specs.declared.line.Stop.TheVariants as stops
@@ -9,10 +9,11 @@ use Rattle.nxt_model.specs.Clumps.{Clumps, Activity, Idle, Queued, Free}
 use Rattle.nxt_model.specs.Devices.{Devices, at_start}
 use Rattle.nxt_model.specs.Image.{Image}
 use Rattle.nxt_model.specs.Program.{State}
-use Rattle.nxt_model.specs.Values.{Value}
-use Rattle.nxt_space.specs.Variables.{Variables, AreSound}
-use Rattle.nxt_tool.specs.First.{are_first}
-use Rattle.nxt_tool.specs.Numbers.{shapes_of}
+use Rattle.nxt_model.specs.Values.{lists_in}
+use Rattle.nxt_space.specs.Variables.{Variables}
+use Rattle.nxt_ops.specs.Ops.{AreFit}
+use Rattle.nxt_code.specs.Decoding.{IsDecoded}
+use Rattle.nxt_tool.specs.First.{are_built}
 use Rattle.nxt_tool.specs.declared.program.Program.{Program}
 
 -- the only clump: nothing lowers it, and it begins at the first word
@@ -26,7 +27,7 @@ image_of s words =
       entries = s.entries;
       shapes = s.shapes;
       values = s.start;
-      rows = 1;
+      rows = s.start_rows;
       static_size = s.static_size;
       clumps = only_clump ∷ [];
       dependents = [];
@@ -35,16 +36,17 @@ image_of s words =
 
 -- ---- programs
 
--- the variables are numbers of these kinds
-pub record AreOfKinds (s : Variables) (kinds : List Kind) : Type 0 where
-  pub shapes : s.shapes ≡ shapes_of kinds
-  pub sound : AreSound s
+-- each statement of the code is fit for variables of these shapes
+abbrev pub AllFit : Members → List (ℕ × Statement) → Type 0
+AllFit ss code = (k : ℕ) (x : ℕ × Statement) → slice_get code k ≡ Some x → AreFit ss x.1
 
--- the kinds are those of the variables, and the statements those of the words
+-- the table is that of the variables, and the code is that of the words, whose statements are fit and run
 pub record IsProgram (p : Program) : Type 0 where
-  pub kinds : AreOfKinds p.space p.kinds.items
-  pub code : p.code.items ≡ statements p.words
-  pub first : IsTrue (are_first p.code.items)
+  pub entries : p.toc.entries ≡ p.space.entries
+  pub shapes : p.toc.shapes ≡ p.space.shapes
+  pub code : IsDecoded p.words p.code
+  pub fit : AllFit p.space.shapes (statements p.words)
+  pub built : are_built p.space.shapes (statements p.words) ≡ true
 
 -- the image that it runs
 abbrev pub image_in : Program → Image
@@ -53,6 +55,8 @@ image_in p = image_of p.space p.words
 -- it is at its start
 pub record IsAtStart (p : Program) : Type 0 where
   pub values : p.space.values ≡ p.space.start
+  pub rows : p.space.rows ≡ p.space.start_rows
+  pub enough : lists_in p.space.start < p.space.start_rows
 
 -- ---- states
 
@@ -76,12 +80,12 @@ clumps_of entries place turn stopped =
       mutexes = replicate entries Free;
     }
 
-abbrev pub state_of : ℕ → Value → List (List ℤ) → ℕ → ℕ → ℕ → Option Stop → State
-state_of entries vars motors clock place turn stopped =
+abbrev pub state_of : Variables → List (List ℤ) → ℕ → ℕ → ℕ → Option Stop → State
+state_of s motors clock place turn stopped =
     record {
-      values = vars;
-      rows = 1;
-      clumps = clumps_of entries place turn stopped;
+      values = s.values;
+      rows = s.rows;
+      clumps = clumps_of (length s.entries) place turn stopped;
       clock = clock;
       start_tick = 0;
       devices = devices_of motors;

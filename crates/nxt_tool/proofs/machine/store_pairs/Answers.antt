@@ -1,14 +1,26 @@
-use Rattle.std.proofs.Common.{◌≡◌, rules}
+use Rattle.std.proofs.Common.{◌≡◌, ◌+◌, sym, ap, ap₂, ◌∙◌, arith, rules, drop}
+use Rattle.nxt_types.specs.Statements.{statement_of}
 use Rattle.nxt_model.specs.Devices.{set_property}
-use Rattle.nxt_tool.specs.Numbers.{numbers_of}
-use Rattle.nxt_tool.proofs.Computing.{pairs_more, pairs_done}
+use Rattle.nxt_tool.specs.Numbers.{number_at, with_pairs}
+use Rattle.nxt_tool.proofs.Named.{pairs_more, pairs_done}
 use Rattle.nxt_tool.proofs.machine.store_pairs.Goals as goal
 
-pub loop-n-preserved : goal.loop-n-preserved
-loop-n-preserved c =
-    let stored : c.set_property.new.self ≡ set_property c.arg-in-loop-n.result c.number.result c.loop-n.motor = search rules in
-    pairs_more c.args.kinds.now (numbers_of c.args.space.now) c.args.pairs.now c.loop-n.n c.loop-n.motor c.set_property.new.self _ c.loop-n-test.true
-    (rw (← c.arg.ensures, ← c.arg-in-loop-n.ensures, ← c.variable-from.ensures, ← c.number.ensures) stored) c.loop-n.invariant
+pub loop-k-preserved : goal.loop-k-preserved
+loop-k-preserved c =
+    let s = c.args.space.now in
+    let args = (statement_of c.args.instr.now c.args.words.now).args in
+    let stored : c.set_property.new.self ≡ set_property c.word_at.result c.number.result c.loop-k.motor = search rules in
+    let named = c.number.ensures ∙ ap (number_at s) c.word_at-in-loop-k.ensures in
+    record {
+      few = omega (arith, c.loop-k-test.true, c.operand_count-count.ensures.few);
+      same =
+          ap (with_pairs s (drop (c.loop-k.k + 2) args)) (stored ∙ ap₂ (λ p n. set_property p n c.loop-k.motor) c.word_at.ensures named)
+          ∙ pairs_more s args c.loop-k.k (c.loop-k.k + 1) (c.loop-k.k + 2) c.loop-k.motor (omega arith) (omega arith) (omega (arith, c.loop-k-test.true, c.operand_count-count.ensures.count))
+          ∙ c.loop-k.invariant.same;
+    }
 
 pub returns : goal.returns
-returns c = pairs_done c.args.kinds.now (numbers_of c.args.space.now) c.args.pairs.now c.loop-n.n c.loop-n.motor _ c.loop-n-test.false c.loop-n.auto.n-end c.loop-n.invariant
+returns c =
+    let args = (statement_of c.args.instr.now c.args.words.now).args in
+    sym (pairs_done c.args.space.now args c.loop-k.k c.loop-k.motor (omega (arith, c.loop-k-test.false, c.operand_count-count.ensures.count)))
+    ∙ c.loop-k.invariant.same

@@ -1,6 +1,6 @@
 -- The first state of the program.
 use Rattle.std.proofs.Common.{◌∙◌, ap, ℤ, List, [], ◌∷◌}
-use Rattle.std.specs.Prelude.{pos, replicate, length, None}
+use Rattle.std.specs.Prelude.{pos, replicate, None}
 use Rattle.nxt_tool.specs.declared.program.Program.{Program}
 use Rattle.nxt_tool.specs.Plain.{Held, held, image_in, state_of}
 use Rattle.nxt_tool.proofs.OneClump.{start_held}
@@ -8,7 +8,7 @@ use Rattle.nxt_tool.proofs.machine.Machine.new.Goals as goal
 
 -- a machine of a program with three motors
 abbrev first_held : Program → List ℤ → List ℤ → List ℤ → Held
-first_held p a b c = held (image_in p) (state_of (length p.space.entries) p.space.values (a ∷ b ∷ c ∷ []) 0 0 0 None)
+first_held p a b c = held (image_in p) (state_of p.space (a ∷ b ∷ c ∷ []) 0 0 0 None)
 
 abbrev unset : List ℤ
 unset = replicate 15 (pos 0)
@@ -19,4 +19,4 @@ returns c =
     ap (λ m. first_held p m c.new-2.result c.new-3.result) c.new.ensures
     ∙ ap (λ m. first_held p unset m c.new-3.result) c.new-2.ensures
     ∙ ap (λ m. first_held p unset unset m) c.new-3.ensures
-    ∙ start_held p.space p.kinds.items p.words c.requires.program.kinds c.requires.start.values
+    ∙ start_held p c.requires.start
