@@ -1,2 +1,3 @@
+pub mod FirstStatement
 pub mod Fitting
 pub mod Meanings

@@ -5,3 +5,6 @@
 pub mod run;
 
 pub use run::{run_array, runs};
+
+#[cfg(test)]
+mod tests;

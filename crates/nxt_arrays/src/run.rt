@@ -54,23 +54,23 @@ pub fn run_array(
     ensures { (d : Devices) (t : Clock) → Does Done (values_after space.old i.now words.now d t) space.old result space.new }
 {
     match i.op {
-        Op::Index => index(alloc, toc, space, i.a, i.b, i.c),
+        Op::Index => index(alloc, space, i.a, i.b, i.c),
         Op::Replace => replace(alloc, toc, space, i.a, i.b, i.c, i.d),
         Op::Arrsize => {
-            array_size(alloc, toc, space, i.a, i.b);
+            array_size(alloc, space, i.a, i.b);
             Ok(())
         }
         Op::Arrbuild => build(alloc, toc, space, i.a, sources_of(i, words)),
-        Op::Arrsubset => subset(alloc, toc, space, i.a, i.b, i.c, i.d),
+        Op::Arrsubset => subset(alloc, space, i.a, i.b, i.c, i.d),
         Op::Arrinit => initialize(alloc, toc, space, i.a, i.b, i.c),
         Op::Flatten => flatten(alloc, toc, space, i.a, i.b),
         Op::Unflatten => unflatten(alloc, toc, space, i.a, i.b, i.c, i.d),
-        Op::Numtostr => number_to_string(alloc, toc, space, i.a, i.b),
-        Op::Strtonum => string_to_number(alloc, toc, space, i.a, i.b, i.c, i.d, i.e),
+        Op::Numtostr => number_to_string(alloc, space, i.a, i.b),
+        Op::Strtonum => string_to_number(alloc, space, i.a, i.b, i.c, i.d, i.e),
         Op::Strcat => concatenate(alloc, toc, space, i.a, sources_of(i, words)),
-        Op::Strsubset => substring(alloc, toc, space, i.a, i.b, i.c, i.d),
-        Op::Strtoarr => string_to_array(alloc, toc, space, i.a, i.b),
-        _ => array_to_string(alloc, toc, space, i.a, i.b),
+        Op::Strsubset => substring(alloc, space, i.a, i.b, i.c, i.d),
+        Op::Strtoarr => string_to_array(alloc, space, i.a, i.b),
+        _ => array_to_string(alloc, space, i.a, i.b),
     }
 }
 

@@ -14,7 +14,7 @@ use Rattle.nxt_space.specs.Variables.{Variables, AreSound, name_of, shape_of, va
 use Rattle.nxt_space.specs.declared.sizing.Size.{Size}
 use Rattle.nxt_ops.proofs.Counting.{sound_part}
 use Rattle.nxt_lists.specs.Pieces.{size_of_each}
-use Rattle.nxt_lists.proofs.Storable.{value_filled}
+use Rattle.nxt_ops.proofs.Storing.{copy_filled}
 use Rattle.nxt_lists.proofs.ListElements.{IsElement}
 use Rattle.nxt_lists.proofs.ListStored.{AreFor, AreSmall, HasSize, flat_list, element_small, list_size}
 use Rattle.nxt_lists.proofs.Conversions.{element_strides}
@@ -68,7 +68,7 @@ is_copied s dest value count t zs sound some some_value of_list fits same few is
     let part = sound_part s value sound some_value in
     let e : IsElement u v = record { shape = shape_of s value; fits = fits; part = part } in
     let sized : size_of_filled t zs ≡ size_in u (stored u v) =
-    ap (λ (w : Shape). size_of_filled w zs) same ∙ ap (size_in u) (value_filled u (shape_of s value) v zs fits part.of is)
+    ap (λ (w : Shape). size_of_filled w zs) same ∙ ap (size_in u) (copy_filled u (shape_of s value) v zs fits part.of is)
     in
     let are = copies_for s dest value count of_list e few in
     record {

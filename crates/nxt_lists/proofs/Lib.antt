@@ -2,10 +2,8 @@ pub mod Between
 pub mod Conversions
 pub mod Copies
 pub mod Counted
-pub mod Grown
 pub mod ListElements
 pub mod ListStored
-pub mod Meant
 pub mod Sections
 pub mod Sources
 pub mod Storable

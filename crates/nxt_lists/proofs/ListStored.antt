@@ -16,10 +16,9 @@ use Rattle.nxt_space.specs.Sizes.{IsCountable, size_in}
 use Rattle.nxt_space.specs.Variables.{Variables, AreSound, HasStrides, name_of, shape_of}
 use Rattle.nxt_space.specs.declared.sizing.Size.{Size}
 use Rattle.nxt_space.proofs.FilledLaws.{filled_stored}
-use Rattle.nxt_ops.proofs.Counting.{sound_part}
+use Rattle.nxt_ops.proofs.Counting.{sound_part, grows}
 use Rattle.nxt_ops.proofs.Storing.{IsStorable}
 use Rattle.nxt_lists.specs.Pieces.{size_of_each, with_list}
-use Rattle.nxt_lists.proofs.Grown.{grows}
 use Rattle.nxt_lists.proofs.ListElements.{IsElement}
 
 -- ---- by what numbers spell

@@ -1,5 +1,5 @@
 -- Values that are stored by what numbers spell.
-use Rattle.std.proofs.Common.{◌≡◌, ℕ, ◌*◌, ◌<◌, ◌≤◌, true, List, [], length, get_or, Result, Err, IsSome, inl, inr, refl, sym, ap, ◌∙◌, subst, arith, append-nil}
+use Rattle.std.proofs.Common.{◌≡◌, ℕ, ◌*◌, ◌<◌, ◌≤◌, true, List, [], length, get_or, Result, Err, IsSome, inl, inr, refl, sym, ap, ◌∙◌, subst, arith}
 use Rattle.std.specs.Prelude.{ℤ, pos, IfOk, slice_index_or}
 use Rattle.std.proofs.lemmas.Bool.{and_parts, cases_lt}
 use Rattle.std.proofs.lemmas.List.{get_or_default, get_or_past}
@@ -17,13 +17,13 @@ use Rattle.nxt_space.specs.Variables.{Variables, AreSound, name_of, shape_of, va
 use Rattle.nxt_space.specs.declared.fault.OpFault.{OpFault}
 use Rattle.nxt_space.specs.declared.fault.OpFault.TheVariants.{PoolPassed}
 use Rattle.nxt_space.specs.declared.sizing.Size.{Size}
-use Rattle.nxt_space.proofs.FilledLaws.{filled_stored}
 use Rattle.nxt_space.proofs.VariableLaws.{footprint_told}
 use Rattle.nxt_ops.specs.Ops.{Done}
 use Rattle.nxt_ops.proofs.Counting.{IsSoundPart, sound_part, value_countable}
 use Rattle.nxt_ops.proofs.Storing.{IsStorable}
 use Rattle.nxt_lists.proofs.ListElements.{part_elements}
-use Rattle.nxt_lists.proofs.Meant.{Gives, given_stored}
+use Rattle.nxt_ops.proofs.Meant.{Gives, given_stored}
+use Rattle.nxt_ops.proofs.Storing.{copy_filled}
 
 -- ---- how a statement ends
 
@@ -51,17 +51,10 @@ room_refused s i v size bytes sound some is h =
     let told = room_told s i v size sound some is in
     (subst (λ n. pool_size < n) told h.0, h.1 ∙ told, refl)
 
--- ---- one value
-
-pub value_filled : (s t : Shape) (v : Value) (zs : List ℤ) → convertible s t ≡ true → is_of t v ≡ true → zs ≡ flat v → (filled s zs).0 ≡ stored s v
-value_filled s t v zs fits of is =
-    ap (λ ys. (filled s ys).0) (is ∙ sym (append-nil (flat v)))
-    ∙ ap (λ (r : Value × List ℤ). r.0) (filled_stored s t v [] fits of)
-
 -- the flat form of a part
 part_storable : (s : Variables) (i : ℕ) (t : Shape) (v : Value) (zs : List ℤ) → AreSound s → IsSome (name_of s i) → IsSoundPart t v → convertible (shape_of s i) t ≡ true → zs ≡ flat v → IsStorable s i v zs
 part_storable s i t v zs sound some part fits is =
-    let filled = value_filled (shape_of s i) t v zs fits part.of is in
+    let filled = copy_filled (shape_of s i) t v zs fits part.of is in
     record { filled = filled; countable = value_countable (shape_of s i) t v zs (sound_part s i sound some).strides part fits filled }
 
 -- ---- the zero value

@@ -6,7 +6,7 @@ ghost use Rattle.nxt_types.specs.Shapes.{convertible, is_number};
 ghost use Rattle.nxt_model.specs.Devices.{Devices};
 ghost use Rattle.nxt_model.specs.Means.Arrays.{index as index_means, replace as replace_means, array_size as size_means, subset as subset_means, overwritten as overwritten_elements, pieces};
 ghost use Rattle.nxt_model.specs.Values.{Num, elements, flat as flat_form, list_of};
-ghost use Rattle.nxt_space.specs.Variables.{name_of, shape_of, value_of};
+ghost use Rattle.nxt_space.specs.Variables.{AreSound, name_of, shape_of, value_of};
 ghost use Rattle.nxt_space.specs.Outcomes.{Does};
 ghost use Rattle.nxt_ops.specs.Ops.{AreOf, Done, given};
 ghost use Rattle.nxt_ops.specs.Operands.{given_or_left, place_of, values_stored};
@@ -20,15 +20,8 @@ use nxt_types::toc::Toc;
 use std::alloc::Global;
 
 /// Stores the element of a list at an index (0 where it is left out), or past the list's end the zero value.
-pub fn index(
-    alloc: Global,
-    toc: &Toc,
-    space: &mut Space,
-    dest: u16,
-    list: u16,
-    at: u16,
-) -> Result<(), OpFault>
-    requires of { AreOf toc.now space.old }
+pub fn index(alloc: Global, space: &mut Space, dest: u16, list: u16, at: u16) -> Result<(), OpFault>
+    requires sound { AreSound space.old }
     requires dest { IsSome (name_of space.old dest) }
     requires list { IsSome (name_of space.old list) }
     requires of_list { is_list (shape_of space.old list) ≡ true }
@@ -103,32 +96,26 @@ fn overwritten(
 }
 
 /// Stores the length of a list in a number. It takes no memory.
-pub fn array_size(alloc: Global, toc: &Toc, space: &mut Space, dest: u16, list: u16)
-    requires of { AreOf toc.now space.old }
+pub fn array_size(alloc: Global, space: &mut Space, dest: u16, list: u16)
+    requires sound { AreSound space.old }
     requires dest { IsSome (name_of space.old dest) }
     requires list { IsSome (name_of space.old list) }
     requires number { is_number (shape_of space.old dest) ≡ true }
     ensures { (d : Devices) → Does Done (values_stored space.old (place_of space.old dest ∷ []) (size_means d (given space.old dest) (given space.old list))) space.old (Ok tt) space.new }
 {
-    let path = Path {
-        var: list,
-        steps: Flat::new(alloc),
-    };
-    let length = space.length(&path);
-    space.set(dest, i64::from(length));
+    space.set(dest, i64::from(length_of(alloc, space, list)));
 }
 
 /// Stores the elements of a list from an index on (0 where it is left out), up to a number of them (all where it is left out).
 pub fn subset(
     alloc: Global,
-    toc: &Toc,
     space: &mut Space,
     dest: u16,
     list: u16,
     at: u16,
     count: u16,
 ) -> Result<(), OpFault>
-    requires of { AreOf toc.now space.old }
+    requires sound { AreSound space.old }
     requires dest { IsSome (name_of space.old dest) }
     requires list { IsSome (name_of space.old list) }
     requires of_list { is_list (shape_of space.old list) ≡ true }

@@ -8,12 +8,12 @@ ghost use Rattle.nxt_space.specs.Fills.{filled};
 ghost use Rattle.nxt_space.specs.Outcomes.{Does};
 ghost use Rattle.nxt_space.specs.Sizes.{IsCountable, size_in, size_of_filled};
 ghost use Rattle.nxt_space.specs.Variables.{name_of, shape_of, with_value, with_values, footprint_of};
-ghost use Rattle.nxt_ops.specs.Ops.{AreOf, Done, shape_in};
-ghost use Rattle.nxt_lists.specs.Pieces.{stride_in, with_list};
+ghost use Rattle.nxt_ops.specs.Ops.{AreOf, Done};
+ghost use Rattle.nxt_lists.specs.Pieces.{with_list};
 
+use nxt_ops::operands::stride_at;
 use nxt_space::{Flat, OpFault, Size, Space};
 use nxt_types::NoMemory;
-use nxt_types::shape::Shape;
 use nxt_types::toc::Toc;
 
 /// Whether the pool has room for a list of so many elements, which take so much of it, in a variable that is a list.
@@ -31,21 +31,10 @@ pub fn check_room(
     ensures room { (v : Value) → with_list (shape_of space.now dest) count elements ≡ size_in (shape_of space.now dest) v → OnOk result (footprint_of (with_values (with_value space.now dest v) space.now) ≤ pool_size) }
     ensures refused { (v : Value) → with_list (shape_of space.now dest) count elements ≡ size_in (shape_of space.now dest) v → IfErr result (λ fault. Does Done (with_value space.now dest v) space.now (Err fault) space.now) }
 {
-    let size = elements.in_list(count, stride_of(toc, dest));
+    let size = elements.in_list(count, stride_at(toc, dest));
     match space.room(dest, size.bytes, size.lists) {
         Ok(()) => Ok(()),
         Err(passed) => Err(OpFault::PoolPassed(passed.0)),
-    }
-}
-
-// How far a list's elements are apart.
-fn stride_of(toc: &Toc, list: u16) -> u32
-    requires { is_list (shape_in toc.now list) ≡ true }
-    ensures { result ≡ stride_in (shape_in toc.now list) }
-{
-    match toc.shape(list) {
-        Some(Shape::List(stride, _)) => *stride,
-        _ => unreachable!(),
     }
 }
 

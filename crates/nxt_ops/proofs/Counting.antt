@@ -6,7 +6,7 @@ use Rattle.std.proofs.lemmas.Bool.{and_parts}
 use Rattle.std.proofs.lemmas.List.{length-map}
 use Rattle.std.proofs.lemmas.List.Sums.{sum_by-cons}
 use Rattle.std.proofs.lemmas.Nat.{mul-le}
-use Rattle.nxt_types.specs.Names.{Name, size, name_in, name_among}
+use Rattle.nxt_types.specs.Names.{Name, size, sizes, name_in, name_among}
 use Rattle.nxt_types.specs.Shapes.{Shape, Void, Number, Array, Cluster, Mutex, Members, no_members, member, convertible, convertible_members}
 use Rattle.nxt_types.specs.declared.kind.Kind.{Kind}
 use Rattle.nxt_model.specs.Values.{Value, Values, Num, ListOf, GroupOf, no_more, value, values, items, stored, stored_members, is_of, are_of, lists_in, lists_among, many}
@@ -23,9 +23,9 @@ use Rattle.nxt_space.proofs.PartSizes.{lists_with_part, bytes_with_part, part_of
 -- ---- what is stored
 
 -- the value has as many lists when it is stored, and their bytes grow by their strides at most
-record Grows (s t : Shape) (v : Value) : Type 0 where
-  lists : lists_in (stored s v) ≡ lists_in v
-  bytes : list_bytes s (stored s v) ≤ 2 ^ 16 * list_bytes t v + 3 * lists_in v
+pub record Grows (s t : Shape) (v : Value) : Type 0 where
+  pub lists : lists_in (stored s v) ≡ lists_in v
+  pub bytes : list_bytes s (stored s v) ≤ 2 ^ 16 * list_bytes t v + 3 * lists_in v
 
 -- the same for all elements of a list
 record EachGrows (s t : Shape) (vs : Values) : Type 0 where
@@ -68,7 +68,7 @@ each_grows s t h (value v vs) e =
     }
 
 mutual
-  grows : (s t : Shape) (v : Value) → HasStrides s → HasStrides t → convertible s t ≡ true → is_of t v ≡ true → Grows s t v
+  pub grows : (s t : Shape) (v : Value) → HasStrides s → HasStrides t → convertible s t ≡ true → is_of t v ≡ true → Grows s t v
   grows (Number k) (Number l) (Num z) a b c e = record { lists = refl; bytes = omega arith }
   grows (Array n s) (Array m t) (ListOf vs) a b c e =
       list_grows n m s t vs a.1 b.0 (each_grows s t (λ v is. grows s t v a.2 b.2 c is) vs e)
@@ -104,6 +104,32 @@ mutual
         | inl here ↦ subst HasStrides (ap (λ (m : Name). m.shape) here.same) (strides_in s i here.inner here.names h.0)
         | inr there ↦ strides_among ss (k + 1) (i - size s) n there.names h.1
       ]
+
+mutual
+  size_in_shape : (s : Shape) (i : ℕ) (n : Name) → name_in s i ≡ Some n → size n.shape ≤ size s
+  size_in_shape Void zero n e = let f : Void ≡ n.shape = cc in omega (arith, ap size f)
+  size_in_shape (Number k) zero n e = let f : Number k ≡ n.shape = cc in omega (arith, ap size f)
+  size_in_shape (Array stride s) zero n e = let f : Array stride s ≡ n.shape = cc in omega (arith, ap size f)
+  size_in_shape (Cluster ss) zero n e = let f : Cluster ss ≡ n.shape = cc in omega (arith, ap size f)
+  size_in_shape (Cluster ss) (suc i) n e = omega (arith, size_among_members ss 0 i n e)
+  size_in_shape Mutex zero n e = let f : Mutex ≡ n.shape = cc in omega (arith, ap size f)
+  size_in_shape s (suc i) n e = let f : ⊥ = cc in absurd f
+
+  size_among_members : (ss : Members) (k i : ℕ) (n : Name) → name_among ss k i ≡ Some n → size n.shape ≤ sizes ss
+  size_among_members no_members k i n e = let f : ⊥ = cc in absurd f
+  size_among_members (member s ss) k i n e =
+      elim (first_or_behind s ss k i n e) [
+        | inl here ↦ omega (arith, size_in_shape s i here.inner here.names, ap (λ (m : Name). size m.shape) here.same)
+        | inr there ↦ omega (arith, size_among_members ss (k + 1) (i - size s) n there.names)
+      ]
+
+few_by : (s : Variables) (i : ℕ) (o : Option Name) → name_of s i ≡ o → AreSound s → size (shape_by o) < 2 ^ 16
+few_by s i None named e = omega arith
+few_by s i (Some n) named e = omega (arith, size_among_members s.shapes 0 i n named, e.entries)
+
+-- what an entry names is spelled by few entries
+pub few_entries : (s : Variables) (i : ℕ) → AreSound s → size (shape_of s i) < 2 ^ 16
+few_entries s i e = few_by s i (name_of s i) refl e
 
 -- what an entry names is no larger than the pool, and a value of its shape
 pub record IsSoundPart (s : Shape) (v : Value) : Type 0 where

@@ -3,6 +3,7 @@ pub mod Counting
 pub mod DecidingNumbers
 pub mod Fitting
 pub mod Meanings
+pub mod Meant
 pub mod NumberLists
 pub mod PairedNumbers
 pub mod Signs

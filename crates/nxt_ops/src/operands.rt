@@ -5,7 +5,7 @@ ghost use Rattle.nxt_types.specs.Shapes.{tree, is_number as is_number_shape};
 ghost use Rattle.nxt_model.specs.Means.Effects.{element, word_or as word_or_else};
 ghost use Rattle.nxt_model.specs.Means.Numbers.{signed_kind};
 ghost use Rattle.nxt_ops.specs.Ops.{shape_in};
-ghost use Rattle.nxt_ops.specs.Operands.{given_or_left};
+ghost use Rattle.nxt_ops.specs.Operands.{given_or_left, stride_of};
 
 use nxt_space::Space;
 use nxt_types::numbers::{is_signed, wrap};
@@ -23,6 +23,25 @@ pub fn word_or(space: &Space, i: u16, other: u32) -> u32
         other
     } else {
         wrap(space.get(i))
+    }
+}
+
+/// How many bytes the elements of the list that begins at an entry stand apart.
+pub fn stride_at(toc: &Toc, i: u16) -> u32
+    ensures { result ≡ stride_of (shape_in toc.now i) }
+{
+    match toc.shape(i) {
+        Some(shape) => stride(shape),
+        None => 0,
+    }
+}
+
+fn stride(shape: &Shape) -> u32
+    ensures { result ≡ stride_of (tree shape.now) }
+{
+    match shape {
+        Shape::List(stride, _) => *stride,
+        Shape::Void | Shape::Num(_) | Shape::Group(_) | Shape::Mutex => 0,
     }
 }
 

@@ -40,6 +40,7 @@ sound_by s i x (Some n) named is e =
     let new = plain_stored n.shape x is in
     let old = plain_number n.shape (part n.path s.values) is (part_of_shape s.shapes i n s.values named e.shapes) in
     record {
+      entries = e.entries;
       strides = e.strides;
       shapes = with_part_of_shape s.shapes i n v s.values named e.shapes new.of;
       rows = omega (arith, e.rows, lists_with_part s.shapes i n v s.values named e.shapes, old.lists, new.lists);

@@ -4,7 +4,7 @@ use Rattle.std.specs.declared.result.Result.{Result}
 use Rattle.nxt_types.specs.Arithmetic.{extend}
 use Rattle.nxt_types.specs.declared.kind.Kind.TheVariants.{Ubyte}
 use Rattle.nxt_types.specs.Shapes.{Shape, Void, Number, Array, Cluster, Mutex, Members, no_members, member}
-use Rattle.nxt_types.specs.Names.{Name, name_among}
+use Rattle.nxt_types.specs.Names.{Name, name_among, sizes}
 use Rattle.nxt_types.specs.declared.shape.TocEntry.{TocEntry}
 use Rattle.nxt_model.specs.Values.{Value, Num, list_of, elements, part, with_part, is_of, lists_in}
 use Rattle.nxt_model.specs.Reading.{HeldList, ReadsAs}
@@ -124,8 +124,9 @@ abbrev mutual
   AllHaveStrides no_members = Unit {0}
   AllHaveStrides (member s ss) = HasStrides s × AllHaveStrides ss
 
--- the values have their shapes, and each list has a row
+-- the table has fewer entries than 16 bits count, the values have their shapes, and each list has a row
 pub record AreSound (s : Variables) : Type 0 where
+  pub entries : sizes s.shapes < 2 ^ 16
   pub strides : AllHaveStrides s.shapes
   pub shapes : is_of (Cluster s.shapes) s.values ≡ true
   pub rows : lists_in s.values < s.rows

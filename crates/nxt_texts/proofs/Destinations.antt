@@ -1,38 +1,25 @@
 -- What is stored for one destination, and for two, the second of which is a number or left out.
-use Rattle.std.proofs.Common.{◌≡◌, ℕ, ◌+◌, ◌≤◌, max, Bool, true, false, [], ◌∷◌, ◌++◌, Option, Some, None, IsSome, Ok, Result, refl, sym, ap, ◌∙◌, subst, arith, append-nil}
+use Rattle.std.proofs.Common.{◌≡◌, ℕ, ◌+◌, ◌≤◌, max, Bool, true, false, [], ◌∷◌, ◌++◌, Option, Some, None, IsSome, Ok, refl, sym, ap, ◌∙◌, subst, arith}
 use Rattle.std.specs.Prelude.{ℤ, if◌then◌else◌, ◌==◌}
 use Rattle.nxt_types.specs.Arithmetic.{extend, word}
 use Rattle.nxt_types.specs.Names.{Name}
 use Rattle.nxt_types.specs.Shapes.{Shape, Number, is_number}
 use Rattle.nxt_model.specs.Devices.{Devices}
 use Rattle.nxt_model.specs.Footprint.{pool_size}
-use Rattle.nxt_model.specs.Means.Effects.{Left, effect, store, gives}
-use Rattle.nxt_model.specs.Values.{Value, Num, number, stored, is_of, with_part, lists_in}
-use Rattle.nxt_model.specs.Variables.{Absent, part_of, put, put_all}
+use Rattle.nxt_model.specs.Means.Effects.{Left, effect, store}
+use Rattle.nxt_model.specs.Values.{Value, Num, number, stored, is_of, lists_in}
+use Rattle.nxt_model.specs.Variables.{Absent, put, put_all}
 use Rattle.nxt_space.specs.Variables.{Variables, AreSound, name_of, shape_by, shape_of, value_of, with_by, with_value, with_values, footprint_of}
 use Rattle.nxt_space.specs.Outcomes.{Does}
-use Rattle.nxt_space.specs.declared.fault.OpFault.{OpFault}
 use Rattle.nxt_space.proofs.SetSound.{set_sound}
 use Rattle.nxt_space.proofs.VariableLaws.{value_sizes}
 use Rattle.nxt_ops.specs.Operands.{given_or_left, place_of, place_or_none, values_stored}
 use Rattle.nxt_ops.specs.Ops.{Done, given}
 use Rattle.nxt_ops.proofs.Counting.{sound_part}
-use Rattle.nxt_ops.proofs.Storing.{Stores}
+use Rattle.nxt_ops.proofs.Meant.{put_named}
 use Rattle.nxt_texts.specs.Numerals.{with_number}
 
 -- ---- where values go
-
-placed_by : (o : Option Name) (w vars : Value) → put (part_of o) [] w vars ≡ with_by o w vars
-placed_by None w vars = refl
-placed_by (Some n) w vars = ap (λ path. with_part path w vars) (append-nil n.path)
-
--- what is stored for the only destination of a statement
-pub one_placed : (s : Variables) (i : ℕ) (v : Value) (d : Devices) → values_stored s (place_of s i ∷ []) (gives (given s i) v d) ≡ with_value s i (stored (shape_of s i) v)
-one_placed s i v d = placed_by (name_of s i) (stored (shape_of s i) v) s.values
-
-pub stores_given : (old new : Variables) (i : ℕ) (v : Value) (result : Result Unit OpFault) → Stores old i v result new → (d : Devices) → Does {T = Unit {0}} Done (values_stored old (place_of old i ∷ []) (gives (given old i) v d)) old result new
-stores_given old new i v result h d =
-    subst (λ vars. Does {T = Unit {0}} Done vars old result new) (sym (one_placed old i v d)) h
 
 -- values with one more, unless its operand is left out
 abbrev second_by : Bool → Variables → ℕ → Value → Value → Value
@@ -40,12 +27,12 @@ second_by true s j w vars = vars
 second_by false s j w vars = with_by (name_of s j) (stored (shape_of s j) w) vars
 
 both_by : (left_out : Bool) (s : Variables) (i j : ℕ) (v w : Value) → put_all (place_of s i ∷ (if left_out then Absent else place_of s j) ∷ []) (store 0 (given s i) v ++ store 1 (if left_out then Left else given s j) w) s.values ≡ second_by left_out s j w (with_value s i (stored (shape_of s i) v))
-both_by true s i j v w = placed_by (name_of s i) (stored (shape_of s i) v) s.values
+both_by true s i j v w = put_named (name_of s i) (stored (shape_of s i) v) s.values
 both_by false s i j v w =
     let first = stored (shape_of s i) v in
     let second = stored (shape_of s j) w in
-    ap (put (place_of s j) [] second) (placed_by (name_of s i) first s.values)
-    ∙ placed_by (name_of s j) second (with_by (name_of s i) first s.values)
+    ap (put (place_of s j) [] second) (put_named (name_of s i) first s.values)
+    ∙ put_named (name_of s j) second (with_by (name_of s i) first s.values)
 
 -- what is stored for two destinations
 pub both_placed : (s : Variables) (i j : ℕ) (v w : Value) (d : Devices) → values_stored s (place_of s i ∷ place_or_none s j ∷ []) (effect (store 0 (given s i) v ++ store 1 (given_or_left s j) w) d) ≡ second_by (j == 0xFFFF) s j w (with_value s i (stored (shape_of s i) v))

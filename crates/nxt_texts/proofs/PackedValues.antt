@@ -1,20 +1,24 @@
 -- Values without lists, as bytes and as numbers.
-use Rattle.std.proofs.Common.{Option, Some, None, IsSome, option_map, subst, Bor, ◌≡◌, ℕ, zero, suc, ◌+◌, ◌-◌, ◌<◌, ◌≤◌, Bool, true, false, List, [], ◌++◌, length, drop, refl, sym, ap, ap₂, ◌∙◌, append_assoc, append-nil, drop-drop, length-drop, arith}
+use Rattle.std.proofs.Common.{Option, Some, None, IsSome, option_map, subst, Bor, ◌≡◌, ℕ, zero, suc, ◌+◌, ◌-◌, ◌*◌, ◌^◌, ◌<◌, ◌≤◌, Bool, true, false, List, [], ◌∷◌, ◌++◌, length, drop, refl, sym, ap, ap₂, ◌∙◌, append_assoc, append-nil, drop-drop, length-drop, arith}
 use Rattle.std.specs.Prelude.{ℤ, nat_abs, ◌||◌}
 use Rattle.std.specs.List.{list_all}
 use Rattle.std.proofs.lemmas.Bool.{and_parts, and_from}
 use Rattle.std.proofs.lemmas.Bool.Decides.{Decides-int_eq}
-use Rattle.nxt_types.specs.Arithmetic.{cut, word}
-use Rattle.nxt_types.specs.Names.{Name}
+use Rattle.std.specs.Int.{to_le_bytes}
+use Rattle.std.proofs.lemmas.List.{length-take, length-append}
+use Rattle.nxt_types.specs.Arithmetic.{cut, word, width_of, leaf_size}
+use Rattle.nxt_types.specs.declared.kind.Kind.{Kind}
+use Rattle.nxt_types.specs.declared.kind.Kind.TheVariants.{Ubyte, Sbyte, Uword, Sword, Ulong, Slong}
+use Rattle.nxt_types.specs.Names.{Name, size, sizes}
 use Rattle.nxt_types.specs.Shapes.{Shape, Void, Number, Array, Cluster, Mutex, Members, no_members, member, has_list, some_list, convertible}
 use Rattle.nxt_model.specs.Footprint.{list_bytes, member_bytes}
 use Rattle.nxt_model.specs.Means.Text.{packed, packed_members, packed_size, packed_sizes, unpacked, unpacked_members}
-use Rattle.nxt_model.specs.Values.{Value, Values, Num, GroupOf, no_more, value, items, flat, flats, stored, is_of, are_of, lists_in, lists_among, many}
+use Rattle.nxt_model.specs.Values.{Value, Values, Num, GroupOf, no_more, value, items, elements, number, flat, flats, stored, is_of, are_of, lists_in, lists_among, many}
 use Rattle.nxt_space.specs.Fills.{first_of, filled, all_filled}
 use Rattle.nxt_space.specs.Variables.{Variables, AreSound, name_of, shape_by, shape_of, value_of}
 use Rattle.nxt_space.proofs.FilledLaws.{filled_stored}
 use Rattle.nxt_space.proofs.HeldOf.{cut-extend, number_of_kind}
-use Rattle.nxt_ops.proofs.Counting.{sound_part}
+use Rattle.nxt_ops.proofs.Counting.{sound_part, few_entries}
 use Rattle.nxt_texts.specs.Packing.{packed_front, packed_fronts, Unpacks}
 
 -- none of both
@@ -43,6 +47,32 @@ mutual
       ∙ ap more (packed_flat s v (flats vs ++ zs) none.0 two.0)
       ∙ ap (λ (r : List ℕ × List ℤ). (packed s v ++ r.0, r.1)) (packed_flats ss vs zs none.1 two.1)
   packed_flats ss vs zs n e = let f : ⊥ = cc in absurd f
+
+leaf_few : (k : Kind) → leaf_size k ≤ 4
+leaf_few Ubyte = omega arith
+leaf_few Sbyte = omega arith
+leaf_few Uword = omega arith
+leaf_few Sword = omega arith
+leaf_few Ulong = omega arith
+leaf_few Slong = omega arith
+
+-- a number takes at most 4 bytes, and one entry spells it
+mutual
+  packed_few : (s : Shape) (v : Value) → length (packed s v) ≤ 4 * size s
+  packed_few Void v = omega arith
+  packed_few (Number k) v = omega (arith, length-take (leaf_size k) (to_le_bytes (width_of Slong) (word (number v))), leaf_few k)
+  packed_few (Array stride s) v = omega arith
+  packed_few (Cluster ss) v = omega (arith, all_packed_few ss (elements v))
+  packed_few Mutex v = omega arith
+
+  all_packed_few : (ss : Members) (vs : List Value) → length (packed_members ss vs) ≤ 4 * sizes ss
+  all_packed_few no_members vs = omega arith
+  all_packed_few (member s ss) [] = omega arith
+  all_packed_few (member s ss) (v ∷ vs) = omega (arith, length-append (packed s v) (packed_members ss vs), packed_few s v, all_packed_few ss vs)
+
+-- the bytes of a variable's value are few
+pub packed_bounded : (s : Variables) (i : ℕ) → AreSound s → length (packed (shape_of s i) (value_of s i)) < 2 ^ 18
+packed_bounded s i sound = omega (arith, packed_few (shape_of s i) (value_of s i), few_entries s i sound)
 
 -- the shape that the table tells
 pub shape_told : (t : Shape) (o : Option Name) → Some t ≡ option_map (λ (n : Name). n.shape) o → t ≡ shape_by o

@@ -26,7 +26,7 @@ use Rattle.nxt_ops.proofs.Storing.{IsStorable}
 use Rattle.nxt_texts.specs.Packing.{told_in}
 use Rattle.nxt_texts.specs.Numerals.{with_number}
 use Rattle.nxt_texts.specs.Texts.{text_at}
-use Rattle.nxt_texts.proofs.Destinations.{one_placed}
+use Rattle.nxt_ops.proofs.Meant.{one_placed}
 use Rattle.nxt_texts.proofs.PackedValues.{filled_flat, filled_of_shape, plain_value, unpacked_of_shape}
 
 -- ---- sizes

@@ -27,8 +27,9 @@ use Rattle.nxt_ops.specs.Elements.{numbers_in}
 use Rattle.nxt_ops.proofs.Counting.{IsSoundPart, sound_part}
 use Rattle.nxt_ops.proofs.NumberLists.{flat_numbers, variable_numbers, behind_first}
 use Rattle.nxt_ops.proofs.Storing.{IsStorable, whole_gathered}
-use Rattle.nxt_texts.proofs.Destinations.{stores_given}
-use Rattle.nxt_texts.specs.Texts.{IsByte, StoresBytes, flat_bytes, stride_of, text_at}
+use Rattle.nxt_ops.proofs.Meant.{given_stored}
+use Rattle.nxt_ops.specs.Operands.{stride_of}
+use Rattle.nxt_texts.specs.Texts.{IsByte, StoresBytes, flat_bytes, text_at}
 
 -- ---- shapes
 
@@ -225,4 +226,4 @@ bytes_refused s i bs bytes passed sound some text is h d =
     let told : footprint_of (with_values (with_value s i v) s) ≡ footprint_with s i 1 bytes =
     footprint_told s i v sound.shapes some ∙ ap₂ (footprint_with s i) block.lists (block.bytes ∙ sym is)
     in
-    stores_given s s i (byte_list bs) (Err (PoolPassed passed)) (subst (λ n. pool_size < n) (sym told) h.0, h.1 ∙ sym told, refl) d
+    given_stored s s i (byte_list bs) (Err (PoolPassed passed)) (subst (λ n. pool_size < n) (sym told) h.0, h.1 ∙ sym told, refl) d

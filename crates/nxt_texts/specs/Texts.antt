@@ -2,7 +2,6 @@
 use Rattle.std.specs.Prelude.{ℕ, List, [], ◌∷◌, map, length, ℤ, pos, ◌≤ℤ◌}
 use Rattle.std.specs.List.{flat_map}
 use Rattle.std.specs.declared.result.Result.{Result}
-use Rattle.nxt_types.specs.Shapes.{Shape, Array}
 use Rattle.nxt_model.specs.Devices.{Devices}
 use Rattle.nxt_model.specs.Means.Effects.{gives}
 use Rattle.nxt_model.specs.Means.Text.{body}
@@ -28,11 +27,6 @@ bodies_at s is = flat_map (body_at s) is
 
 abbrev pub IsByte : ℤ → Type 0
 IsByte z = (pos 0 ≤ℤ z) × (z ≤ℤ pos 255)
-
--- how far the elements of a list stand apart
-abbrev pub stride_of : Shape → ℕ
-stride_of (Array n s) = n
-stride_of _ = 0
 
 -- ---- what is stored
 

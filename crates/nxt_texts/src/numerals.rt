@@ -8,9 +8,9 @@ ghost use Rattle.nxt_types.specs.Shapes.{is_number};
 ghost use Rattle.nxt_model.specs.Devices.{Devices};
 ghost use Rattle.nxt_model.specs.Means.Strings.{number_to_string as to_string_means, string_to_number as to_number_means};
 ghost use Rattle.nxt_model.specs.Means.Text.{digits_value, is_digit, sign_at as sign_of, signed_number};
-ghost use Rattle.nxt_space.specs.Variables.{name_of, shape_of};
+ghost use Rattle.nxt_space.specs.Variables.{AreSound, name_of, shape_of};
 ghost use Rattle.nxt_space.specs.Outcomes.{Does};
-ghost use Rattle.nxt_ops.specs.Ops.{AreOf, Done, given};
+ghost use Rattle.nxt_ops.specs.Ops.{Done, given};
 ghost use Rattle.nxt_ops.specs.Operands.{given_or_left, place_of, place_or_none, values_stored};
 ghost use Rattle.nxt_texts.specs.Numerals.{is_space, numeral_at as numeral_of};
 
@@ -19,7 +19,6 @@ use crate::text::{behind, body, store_text, text_of};
 use nxt_ops::operands::word_or;
 use nxt_space::{OpFault, Space};
 use nxt_types::numbers::wrap;
-use nxt_types::toc::Toc;
 use std::alloc::Global;
 
 /// A number in a text: its word, and how many bytes it takes with the spaces and the sign in front of it.
@@ -32,12 +31,11 @@ struct Numeral {
 /// Stores a number's decimal text, with a minus sign in front of a negative one, and a zero.
 pub fn number_to_string(
     alloc: Global,
-    toc: &Toc,
     space: &mut Space,
     dest: u16,
     number: u16,
 ) -> Result<(), OpFault>
-    requires of { AreOf toc.now space.old }
+    requires sound { AreSound space.old }
     requires dest { IsSome (name_of space.old dest) }
     requires number { IsSome (name_of space.old number) }
     requires text { is_text (shape_of space.old dest) ≡ true }
@@ -54,7 +52,6 @@ pub fn number_to_string(
 /// place behind it; or where no digit stands there the default (0 where it is left out), and the offset.
 pub fn string_to_number(
     alloc: Global,
-    toc: &Toc,
     space: &mut Space,
     dest: u16,
     past: u16,
@@ -62,7 +59,7 @@ pub fn string_to_number(
     offset: u16,
     default: u16,
 ) -> Result<(), OpFault>
-    requires of { AreOf toc.now space.old }
+    requires sound { AreSound space.old }
     requires dest { IsSome (name_of space.old dest) }
     requires source { IsSome (name_of space.old source) }
     requires number { is_number (shape_of space.old dest) ≡ true }

@@ -28,9 +28,6 @@ use nxt_types::toc::Toc;
 use nxt_types::{Bytes, NoMemory};
 use std::alloc::Global;
 
-/// No value takes more bytes: a table has fewer than 65,536 entries, and a number takes at most 4 bytes.
-const MOST_BYTES: usize = 4 * 65_536;
-
 // ---- packing
 
 /// Stores the bytes of a value without lists, low bytes first and members in order, and a zero.
@@ -51,9 +48,6 @@ pub fn flatten(
     let Ok(bytes) = packed_of(alloc, toc, space, value) else {
         return Err(OpFault::NoMemory);
     };
-    if bytes.len() > MOST_BYTES {
-        return Err(OpFault::NoMemory);
-    }
     store_text(alloc, space, dest, bytes.as_slice())
 }
 

@@ -2,20 +2,18 @@
 
 ghost use Rattle.std.specs.Prelude.{◌≡◌, ◌∷◌, ◌*◌, ◌<◌, ◌^◌, [], true, map, length, All, IfOk, IsSome};
 ghost use Rattle.nxt_types.specs.Calls.{is_text};
-ghost use Rattle.nxt_types.specs.Shapes.{tree};
 ghost use Rattle.nxt_model.specs.Devices.{Devices};
 ghost use Rattle.nxt_model.specs.Means.Strings.{concatenate as concatenate_means, substring as substring_means, string_to_array as to_array_means, array_to_string as to_string_means};
 ghost use Rattle.nxt_model.specs.Footprint.{round4};
 ghost use Rattle.nxt_space.specs.Variables.{AreSound, name_of, shape_of};
 ghost use Rattle.nxt_space.specs.Outcomes.{Does};
-ghost use Rattle.nxt_ops.specs.Ops.{AreOf, Done, given, shape_in};
+ghost use Rattle.nxt_ops.specs.Ops.{AreOf, Done, given};
 ghost use Rattle.nxt_ops.specs.Operands.{given_or_left, place_of, values_stored};
-ghost use Rattle.nxt_texts.specs.Texts.{bodies_at, stride_of};
+ghost use Rattle.nxt_texts.specs.Texts.{bodies_at};
 
 use crate::text::{body, section, store_bytes, store_text, text_of};
-use nxt_ops::operands::word_or;
+use nxt_ops::operands::{stride_at, word_or};
 use nxt_space::{OpFault, Space};
-use nxt_types::shape::Shape;
 use nxt_types::toc::Toc;
 use nxt_types::{Bytes, NoMemory};
 use std::alloc::Global;
@@ -56,14 +54,13 @@ pub fn concatenate(
 /// out), and a zero.
 pub fn substring(
     alloc: Global,
-    toc: &Toc,
     space: &mut Space,
     dest: u16,
     source: u16,
     at: u16,
     count: u16,
 ) -> Result<(), OpFault>
-    requires of { AreOf toc.now space.old }
+    requires sound { AreSound space.old }
     requires dest { IsSome (name_of space.old dest) }
     requires source { IsSome (name_of space.old source) }
     requires text { is_text (shape_of space.old dest) ≡ true }
@@ -82,12 +79,11 @@ pub fn substring(
 /// Stores a text's body.
 pub fn string_to_array(
     alloc: Global,
-    toc: &Toc,
     space: &mut Space,
     dest: u16,
     source: u16,
 ) -> Result<(), OpFault>
-    requires of { AreOf toc.now space.old }
+    requires sound { AreSound space.old }
     requires dest { IsSome (name_of space.old dest) }
     requires source { IsSome (name_of space.old source) }
     requires text { is_text (shape_of space.old dest) ≡ true }
@@ -103,12 +99,11 @@ pub fn string_to_array(
 /// Stores all bytes of a list, and a zero.
 pub fn array_to_string(
     alloc: Global,
-    toc: &Toc,
     space: &mut Space,
     dest: u16,
     source: u16,
 ) -> Result<(), OpFault>
-    requires of { AreOf toc.now space.old }
+    requires sound { AreSound space.old }
     requires dest { IsSome (name_of space.old dest) }
     requires source { IsSome (name_of space.old source) }
     requires text { is_text (shape_of space.old dest) ≡ true }
@@ -151,25 +146,6 @@ fn bodies(alloc: Global, space: &Space, sources: &[u16]) -> Result<Bytes, NoMemo
         bytes.append(body(text.as_slice()))?;
     }
     Ok(bytes)
-}
-
-// How many bytes the elements of the list that begins at an entry stand apart.
-fn stride_at(toc: &Toc, i: u16) -> u32
-    ensures { result ≡ stride_of (shape_in toc.now i) }
-{
-    match toc.shape(i) {
-        Some(shape) => stride(shape),
-        None => 0,
-    }
-}
-
-fn stride(shape: &Shape) -> u32
-    ensures { result ≡ stride_of (tree shape.now) }
-{
-    match shape {
-        Shape::List(stride, _) => *stride,
-        Shape::Void | Shape::Num(_) | Shape::Group(_) | Shape::Mutex => 0,
-    }
 }
 
 // The bytes of the pool that a list of so many elements takes.

@@ -27,7 +27,7 @@ index-requires c =
     let i = c.args.i.now in
     let f = fits.index_fit s i c.args.words.now c.in-Index.is c.requires.fit in
     record {
-      of = record { shapes = c.requires.shapes; sound = c.requires.sound };
+      sound = c.requires.sound;
       dest = named_some s i.a f.two.first.named;
       list = named_some s i.b f.two.second.named;
       of_list = f.two.second.has;
@@ -69,7 +69,7 @@ array_size-requires c =
     let i = c.args.i.now in
     let f = fits.size_fit s i c.args.words.now c.in-Arrsize.is c.requires.fit in
     record {
-      of = record { shapes = c.requires.shapes; sound = c.requires.sound };
+      sound = c.requires.sound;
       dest = named_some s i.a f.first.named;
       list = named_some s i.b f.second.named;
       number = f.first.has;
@@ -88,7 +88,7 @@ subset-requires c =
     let i = c.args.i.now in
     let f = fits.subset_fit s i c.args.words.now c.in-Arrsubset.is c.requires.fit in
     record {
-      of = record { shapes = c.requires.shapes; sound = c.requires.sound };
+      sound = c.requires.sound;
       dest = named_some s i.a f.two.first.named;
       list = named_some s i.b f.two.second.named;
       of_list = f.two.second.has;
@@ -180,7 +180,7 @@ number_to_string-requires c =
     let i = c.args.i.now in
     let f = fits.to_string_fit s i c.args.words.now c.in-Numtostr.is c.requires.fit in
     record {
-      of = record { shapes = c.requires.shapes; sound = c.requires.sound };
+      sound = c.requires.sound;
       dest = named_some s i.a f.first.named;
       number = named_some s i.b f.second.named;
       text = f.first.has;
@@ -200,7 +200,7 @@ string_to_number-requires c =
     let i = c.args.i.now in
     let f = fits.to_number_fit s i c.args.words.now c.in-Strtonum.is c.requires.fit in
     record {
-      of = record { shapes = c.requires.shapes; sound = c.requires.sound };
+      sound = c.requires.sound;
       dest = named_some s i.a f.two.first.named;
       source = named_some s i.c f.two.second.named;
       number = f.two.first.has;
@@ -223,7 +223,7 @@ substring-requires c =
     let i = c.args.i.now in
     let f = fits.substring_fit s i c.args.words.now c.in-Strsubset.is c.requires.fit in
     record {
-      of = record { shapes = c.requires.shapes; sound = c.requires.sound };
+      sound = c.requires.sound;
       dest = named_some s i.a f.two.first.named;
       source = named_some s i.b f.two.second.named;
       text = f.two.first.has;
@@ -243,7 +243,7 @@ string_to_array-requires c =
     let i = c.args.i.now in
     let f = fits.to_array_fit s i c.args.words.now c.in-Strtoarr.is c.requires.fit in
     record {
-      of = record { shapes = c.requires.shapes; sound = c.requires.sound };
+      sound = c.requires.sound;
       dest = named_some s i.a f.first.named;
       source = named_some s i.b f.second.named;
       text = f.first.has;
@@ -284,7 +284,7 @@ array_to_string-requires c =
     let i = c.args.i.now in
     let f = fits.of_array_fit s i c.args.words.now (is_left c) c.requires.fit in
     record {
-      of = record { shapes = c.requires.shapes; sound = c.requires.sound };
+      sound = c.requires.sound;
       dest = named_some s i.a f.first.named;
       source = named_some s i.b f.second.named;
       text = f.first.has;

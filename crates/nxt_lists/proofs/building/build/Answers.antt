@@ -4,7 +4,7 @@ use Rattle.nxt_model.specs.Values.{list_of, stored}
 use Rattle.nxt_space.specs.Variables.{shape_of}
 use Rattle.nxt_lists.specs.Pieces.{pieces_of}
 use Rattle.nxt_lists.proofs.ListStored.{list_size, spelled_storable}
-use Rattle.nxt_lists.proofs.Meant.{given_stored}
+use Rattle.nxt_ops.proofs.Meant.{given_stored}
 use Rattle.nxt_lists.proofs.Sources.{pieces_for}
 use Rattle.nxt_lists.proofs.Storable.{all_countable, store_gives}
 use Rattle.nxt_lists.proofs.building.build.Goals as goal

@@ -13,7 +13,7 @@ use Rattle.nxt_space.specs.declared.sizing.Size.{Size}
 use Rattle.nxt_ops.proofs.NumberLists.{shape_there}
 use Rattle.nxt_lists.specs.Pieces.{with_list}
 use Rattle.nxt_lists.proofs.ListStored.{spelled_storable}
-use Rattle.nxt_lists.proofs.Meant.{Gives, given_stored}
+use Rattle.nxt_ops.proofs.Meant.{Gives, given_stored}
 use Rattle.nxt_lists.proofs.Copies.{is_copied, all_spelled}
 use Rattle.nxt_lists.proofs.Storable.{all_countable, store_gives}
 use Rattle.nxt_lists.proofs.building.initialize.Goals as goal

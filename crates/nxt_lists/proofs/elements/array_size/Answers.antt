@@ -3,10 +3,10 @@ use Rattle.std.proofs.Common.{rules, Ok, w64, to_z, of_z, length, ap, ◌∙◌}
 use Rattle.std.specs.Prelude.{pos}
 use Rattle.std.proofs.Math.Facts.{to_z-of_z}
 use mir.Val.{SFits}
-use Rattle.nxt_model.specs.Values.{Num, elements, part}
-use Rattle.nxt_space.specs.Variables.{positions, value_of}
+use Rattle.nxt_model.specs.Values.{Num, elements}
+use Rattle.nxt_space.specs.Variables.{value_of}
 use Rattle.nxt_ops.proofs.Storing.{number_set}
-use Rattle.nxt_lists.proofs.Meant.{given_stored}
+use Rattle.nxt_ops.proofs.Meant.{given_stored}
 use Rattle.nxt_lists.proofs.elements.array_size.Goals as goal
 
 pub returns : goal.returns
@@ -14,7 +14,6 @@ returns c d =
     let s = c.args.space.now in
     let v = value_of s c.args.list in
     let fits : SFits w64 c.from.result = search rules in
-    let whole = c.length-length.ensures ∙ ap (λ steps. length (elements (part (positions steps) v))) c.new.ensures in
     let x = to_z w64 (of_z w64 c.from.result) in
     given_stored
     s
@@ -22,5 +21,5 @@ returns c d =
     c.args.dest
     (Num (pos (length (elements v))))
     (Ok tt)
-    (number_set s c.set.new.self c.args.dest (Num (pos (length (elements v)))) x c.requires.of.sound c.requires.number (to_z-of_z fits ∙ c.from.ensures ∙ ap pos whole) c.set.ensures)
+    (number_set s c.set.new.self c.args.dest (Num (pos (length (elements v)))) x c.requires.sound c.requires.number (to_z-of_z fits ∙ c.from.ensures ∙ ap pos c.length_of.ensures) c.set.ensures)
     d

@@ -9,7 +9,7 @@ use Rattle.nxt_space.specs.Variables.{shape_of, value_of}
 use Rattle.nxt_ops.specs.Ops.{given}
 use Rattle.nxt_lists.proofs.Between.{replaced_overwritten}
 use Rattle.nxt_lists.proofs.ListStored.{spelled_storable}
-use Rattle.nxt_lists.proofs.Meant.{Gives}
+use Rattle.nxt_ops.proofs.Meant.{Gives}
 use Rattle.nxt_lists.proofs.Sections.{overwritten_for}
 use Rattle.nxt_lists.proofs.Storable.{all_countable, store_gives}
 use Rattle.nxt_lists.proofs.elements.replace.Goals as goal

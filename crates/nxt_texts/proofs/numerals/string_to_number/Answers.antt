@@ -58,7 +58,7 @@ returns c d =
     (number_at (drop at (body_at s c.args.source)))
     found
     d
-    c.requires.of.sound
+    c.requires.sound
     c.requires.number
     c.requires.past
     read

@@ -10,7 +10,8 @@ use Rattle.nxt_space.specs.Variables.{Variables, shape_of}
 use Rattle.nxt_space.specs.declared.fault.OpFault.TheVariants.{PoolPassed}
 use Rattle.nxt_ops.specs.Ops.{given}
 use Rattle.nxt_ops.proofs.NumberLists.{shape_there}
-use Rattle.nxt_texts.specs.Texts.{StoresBytes, bodies_at, stride_of}
+use Rattle.nxt_ops.specs.Operands.{stride_of}
+use Rattle.nxt_texts.specs.Texts.{StoresBytes, bodies_at}
 use Rattle.nxt_texts.proofs.Texts.{stride_there, block_countable, bytes_refused}
 use Rattle.nxt_texts.proofs.strings.concatenate.Goals as goal
 

@@ -4,8 +4,8 @@ use Rattle.std.specs.Prelude.{option_map}
 use Rattle.nxt_types.specs.Names.{Name, name_among}
 use Rattle.nxt_types.specs.Shapes.{Shape, tree}
 use Rattle.nxt_space.specs.Variables.{shape_by}
-use Rattle.nxt_texts.specs.Texts.{stride_of}
-use Rattle.nxt_texts.proofs.strings.stride_at.Goals as goal
+use Rattle.nxt_ops.specs.Operands.{stride_of}
+use Rattle.nxt_ops.proofs.operands.stride_at.Goals as goal
 
 told_shape : (t : Shape) (o : Option Name) → Some t ≡ option_map (λ n. n.shape) o → t ≡ shape_by o
 told_shape t None e = let f : ⊥ = cc in absurd f
