@@ -4,6 +4,7 @@ mod checks;
 mod faults;
 mod rows;
 mod statements;
+mod worked;
 
 use crate::{Status, nxt};
 use nxt_edge::{MemSink, MemSource};
