@@ -13,7 +13,7 @@ use nxt_types::shape::Shape;
 use nxt_types::toc::Toc;
 
 /// The operand's word that leaves it out.
-const LEFT_OUT: u16 = 0xFFFF;
+pub const LEFT_OUT: u16 = 0xFFFF;
 
 /// The word of the number that begins at an entry, or another one where the operand is left out.
 pub fn word_or(space: &Space, i: u16, other: u32) -> u32

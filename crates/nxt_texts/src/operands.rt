@@ -5,10 +5,8 @@ ghost use Rattle.nxt_types.specs.Shapes.{is_number};
 ghost use Rattle.nxt_space.specs.Variables.{shape_of};
 ghost use Rattle.nxt_texts.specs.Numerals.{with_number};
 
+use nxt_ops::operands::LEFT_OUT;
 use nxt_space::Space;
-
-/// The operand's word that leaves it out.
-const LEFT_OUT: u16 = 0xFFFF;
 
 /// Stores a number, cut to its kind, where the operand isn't left out.
 pub fn set_unless_left_out(space: &mut Space, i: u16, number: i64)
