@@ -28,6 +28,7 @@ fn read_some<S: Source>(
     ensures end { result ≡ Ok 0 → IsAtEnd (S.left source.new) }
     ensures later { S.faults source.old ≤ S.faults source.new }
     ensures failed { IsErrOf result ReadAllFault.Failed → Rose (S.faults source.old) (S.faults source.new) }
+    ensures kept { IsErrOf result ReadAllFault.Failed → Consumes (S.left source.old) (S.left source.new) [] }
     ensures gone { OnErr result ((more : List ℕ) × Consumes (S.left source.old) (S.left source.new) more) }
     ensures not_large { IsErrOf result ReadAllFault.TooLarge → ⊥ }
 {
@@ -53,6 +54,8 @@ pub fn read_all<S: Source>(
     ensures within { IfOk result (λ bytes. length bytes ≤ limit) }
     ensures end { OnOk result (IsAtEnd (S.left source.new)) }
     ensures too_large { IsErrOf result ReadAllFault.TooLarge → (taken : List ℕ) × (length taken ≡ limit + 1) × Consumes (S.left source.old) (S.left source.new) taken }
+    // Where a read failed, no more than the limit was taken.
+    ensures failed_within { IsErrOf result ReadAllFault.Failed → (taken : List ℕ) × (length taken ≤ limit) × Consumes (S.left source.old) (S.left source.new) taken }
     ensures gone { OnErr result ((taken : List ℕ) × Consumes (S.left source.old) (S.left source.new) taken) }
     ensures later { S.faults source.old ≤ S.faults source.new }
     ensures failed { IsErrOf result ReadAllFault.Failed → Rose (S.faults source.old) (S.faults source.new) }

@@ -4,7 +4,7 @@ use Rattle.std.proofs.lemmas.Bool.{cases_eq, cases_lt, false≢true}
 use Rattle.std.proofs.lemmas.List.{get_or_past}
 use Rattle.std.proofs.lemmas.List.Sums.{sum_by-set, sum_by-append}
 use Rattle.std.specs.List.{SameBelow}
-use Rattle.nxt_model.specs.Footprint.{round4}
+use Rattle.nxt_types.specs.Pool.{round4}
 use Rattle.nxt_rows.specs.Rows.{dope_row, row_count}
 use Rattle.nxt_heap.specs.Lists.{ByteList, Lists, list_at, block_of, footprint, with_list, with_length, of_length, stride_at, bytes_at, with_byte, IsFree, any_free, with_free, with_free_row, empty_list}
 use Rattle.nxt_heap.specs.Pool.{row_bytes, row_block, list_in, lists_in, state_of, lists_with_length, lists_with_byte, end_of, IsDense}

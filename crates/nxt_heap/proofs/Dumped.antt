@@ -3,7 +3,7 @@ use Rattle.std.proofs.Common.{◌≡◌, ℕ, ◌+◌, ◌*◌, ◌<◌, ◌≤�
 use Rattle.std.specs.Int.{from_le_bytes, w16}
 use Rattle.std.proofs.lemmas.Bool.{cases_lt, cases_eq}
 use Rattle.std.proofs.lemmas.List.{drop_more, get_or_past, get_or-take}
-use Rattle.nxt_model.specs.Footprint.{round4}
+use Rattle.nxt_types.specs.Pool.{round4}
 use Rattle.nxt_model.specs.Reading.{DopeRow, u16_in}
 use Rattle.nxt_rows.specs.declared.DopeRow.{DopeRow as Row}
 use Rattle.nxt_rows.specs.Rows.{u16_at, dope_row, row_count}

@@ -1,7 +1,7 @@
 -- The front of the pool, to the end of the last block, holds what the pool holds.
 use Rattle.std.proofs.Common.{◌≡◌, ℕ, ◌+◌, ◌<◌, ◌≤◌, List, length, take, refl, ap, arith, length-take}
 use Rattle.std.proofs.lemmas.List.{get_or-take}
-use Rattle.nxt_model.specs.Footprint.{round4}
+use Rattle.nxt_types.specs.Pool.{round4}
 use Rattle.nxt_rows.specs.Rows.{dope_row, row_count}
 use Rattle.nxt_rows.proofs.Writes.{dope_row-kept}
 use Rattle.nxt_heap.specs.Pool.{lists_in, state_of, end_of, IsDense}

@@ -4,7 +4,7 @@ use Rattle.std.proofs.Math.Seq.{get_or-append_seam}
 use Rattle.std.proofs.lemmas.Bool.{cases_eq, cases_lt, ne_eqb}
 use Rattle.std.proofs.lemmas.List.{same_lists, get_or_append_left}
 use Rattle.std.specs.List.{SameBelow, SameFrom, list_any}
-use Rattle.nxt_model.specs.Footprint.{round4, pool_size}
+use Rattle.nxt_types.specs.Pool.{round4, pool_size}
 use Rattle.nxt_rows.specs.declared.DopeRow.{DopeRow}
 use Rattle.nxt_rows.specs.Rows.{dope_row, row_count, link_of, chain, free_rows, empty_row_of}
 use Rattle.nxt_rows.proofs.Chains.{chain-step}

@@ -3,7 +3,7 @@ use Rattle.std.proofs.Common.{◌≡◌, ◌≢◌, ℕ, ◌+◌, ◌*◌, ◌/�
 use Rattle.std.proofs.lemmas.Bool.{cases_eq}
 use Rattle.std.specs.List.{SameBelow, SameFrom}
 use Rattle.std.proofs.Math.Nat.{div-add-mod'}
-use Rattle.nxt_model.specs.Footprint.{round4, pool_size}
+use Rattle.nxt_types.specs.Pool.{round4, pool_size}
 use Rattle.nxt_rows.specs.declared.DopeRow.{DopeRow}
 use Rattle.nxt_rows.specs.Rows.{dope_row, row_count}
 use Rattle.nxt_rows.proofs.Writes.{dope_row-kept}

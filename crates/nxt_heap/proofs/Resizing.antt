@@ -4,7 +4,7 @@ use Rattle.std.proofs.lemmas.Bool.{cases_eq, cases_lt}
 use Rattle.std.proofs.lemmas.Grind.{same_number_lists}
 use Rattle.std.proofs.lemmas.List.{get_or-take, get_or-drop}
 use Rattle.std.specs.List.{SameBelow}
-use Rattle.nxt_model.specs.Footprint.{pool_size}
+use Rattle.nxt_types.specs.Pool.{pool_size}
 use Rattle.nxt_rows.specs.Rows.{dope_row, row_count}
 use Rattle.nxt_heap.specs.Lists.{of_length}
 use Rattle.nxt_heap.specs.Pool.{row_bytes, row_block, list_in, lists_in, blocks_before, start_of, end_of, place_for, IsDense}

@@ -3,7 +3,7 @@ use Rattle.std.proofs.Common.{◌≡◌, ◌≢◌, ℕ, zero, suc, ◌+◌, ◌
 use Rattle.std.proofs.lemmas.Bool.{cases_eq, eq-eqb}
 use Rattle.std.proofs.lemmas.List.{same_lists, get_or-replicate, length-replicate}
 use Rattle.std.specs.List.{list_any}
-use Rattle.nxt_model.specs.Footprint.{round4, pool_size}
+use Rattle.nxt_types.specs.Pool.{round4, pool_size}
 use Rattle.nxt_rows.specs.Rows.{u16_at, dope_row, row_count, free_rows, no_place, IsFreeChain}
 use Rattle.nxt_rows.proofs.FreeRows.{free_rows-none, IsFreeChain-none}
 use Rattle.nxt_heap.specs.Pool.{row_bytes, row_block, list_in, lists_in, blocks_before, end_of, IsDense}

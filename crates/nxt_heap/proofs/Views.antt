@@ -5,7 +5,7 @@ use Rattle.std.proofs.lemmas.List.{same_lists, length-set, get_or-set_same}
 use Rattle.std.proofs.lemmas.List.FromFn.{length-map-range_with_len, get_or-map-range_with_len}
 use Rattle.std.proofs.lemmas.List.Sums.{sum_by-cons}
 use Rattle.std.specs.List.{range_with_len}
-use Rattle.nxt_model.specs.Footprint.{round4}
+use Rattle.nxt_types.specs.Pool.{round4}
 use Rattle.nxt_rows.specs.Rows.{dope_row, row_count}
 use Rattle.nxt_heap.specs.Lists.{ByteList, block_of, footprint}
 use Rattle.nxt_heap.specs.Pool.{row_bytes, row_block, list_in, lists_in, state_of, blocks_before, end_of, IsDense}

@@ -1,7 +1,7 @@
 -- The heap as its callers see it: static bytes, and byte lists by row.
 use Rattle.std.specs.Prelude.{◌≡◌, ℕ, ◌+◌, ◌-◌, ◌*◌, ◌<◌, Bool, false, List, [], ◌∷◌, ◌++◌, length, take, replicate, sum_by, slice_set, slice_index_or, Option, Some, None, is_none, IsSome, if◌then◌else◌}
 use Rattle.std.specs.List.{list_any}
-use Rattle.nxt_model.specs.Footprint.{round4, pool_size}
+use Rattle.nxt_types.specs.Pool.{round4, pool_size}
 
 -- the bytes of a list whose elements are `stride` bytes apart
 pub record ByteList : Type 0 where

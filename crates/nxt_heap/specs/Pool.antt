@@ -2,7 +2,7 @@
 -- order of the rows and without gaps.
 use Rattle.std.specs.Prelude.{◌≡◌, ℕ, zero, suc, ◌+◌, ◌*◌, ◌<◌, ◌≤◌, false, List, length, take, drop, map, nat_eq, slice_set, Option, Some, None, if◌then◌else◌, ◌==◌}
 use Rattle.std.specs.List.{list_any, range_with_len, SameBelow}
-use Rattle.nxt_model.specs.Footprint.{round4, pool_size}
+use Rattle.nxt_types.specs.Pool.{round4, pool_size}
 use Rattle.nxt_rows.specs.Rows.{dope_row, row_count, free_rows, IsFreeChain, no_place}
 use Rattle.nxt_rows.specs.declared.DopeRow.{DopeRow}
 use Rattle.nxt_heap.specs.Lists.{ByteList, Lists, of_length, IsFree, with_free, any_free, empty_list}

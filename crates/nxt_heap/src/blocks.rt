@@ -2,30 +2,20 @@
 
 ghost use Rattle.std.specs.Prelude.{◌≡◌, ◌≢◌, ◌+◌, ◌-◌, ◌*◌, ◌%◌, ◌<◌, ◌≤◌, ◌^◌, ℕ, [], ◌∷◌, ◌++◌, length, replicate, slice_index, slice_set, take, drop, IfOk, IfErr, OnErr, None, ◌==◌, if◌then◌else◌};
 ghost use Rattle.std.specs.List.{SameBelow, SameFrom};
-ghost use Rattle.nxt_model.specs.Footprint.{round4 as rounded, pool_size};
+ghost use Rattle.nxt_types.specs.Pool.{round4 as rounded, pool_size};
 ghost use Rattle.nxt_rows.specs.Rows.{dope_row, row_count, no_place, free_rows};
 ghost use Rattle.nxt_heap.specs.Lists.{empty_list};
 ghost use Rattle.nxt_heap.specs.Pool.{row_bytes as bytes_in_row, row_block, start_of, end_of, row_in_place, lists_in, lists_with_length, lists_with_byte, Takes, IsFull, IsDense};
 
 use crate::passed::PoolPassed;
-use nxt_rows::{DopeRow, NO_PLACE, ROW_BYTES, free_row, get, set, take_row};
-
-/// How many bytes the pool has.
-pub const POOL_BYTES: usize = 32768;
+use nxt_rows::{DopeRow, NO_PLACE, free_row, get, set, take_row};
+use nxt_types::pool::{POOL_BYTES, ROW_BYTES, round4};
 
 /// Bytes that stand together.
 #[derive(Clone, Copy)]
 pub struct Block {
     pub start: usize,
     pub bytes: usize,
-}
-
-/// The least multiple of 4 that is at least that many bytes.
-pub fn round4(bytes: u64) -> u64
-    requires { bytes < 2 ^ 63 }
-    ensures { result ≡ rounded bytes }
-{
-    (bytes + 3) / 4 * 4
 }
 
 /// How many bytes a row's list has.
@@ -235,12 +225,12 @@ pub fn add_row(pool: &mut [u8], table: u32, stride: u16, end: u32)
 {
     let first = get(pool, table, 0);
     let rows = first.count;
-    let had = ROW_BYTES * rows as usize;
+    let had = ROW_BYTES as usize * rows as usize;
     let block = Block {
         start: table as usize,
         bytes: round4(had as u64) as usize,
     };
-    let room = round4((had + ROW_BYTES) as u64) as usize;
+    let room = round4(had as u64 + ROW_BYTES) as usize;
     open_room(pool, block, had, room, end as usize);
     let count = rows + 1;
     set(pool, table, 0, DopeRow { count, ..first });
@@ -281,9 +271,9 @@ fn add_list(pool: &mut [u8], table: u32, stride: u16, end: u32) -> Result<Taken,
     ensures err { OnErr result (pool.new ≡ pool.old) }
 {
     let row = get(pool, table, 0).count;
-    let had = ROW_BYTES as u64 * row as u64;
-    let footprint = end as u64 - round4(had) + round4(had + ROW_BYTES as u64);
-    if footprint > POOL_BYTES as u64 {
+    let had = ROW_BYTES * row as u64;
+    let footprint = end as u64 - round4(had) + round4(had + ROW_BYTES);
+    if footprint > POOL_BYTES {
         return Err(PoolPassed(footprint));
     }
     add_row(pool, table, stride, end);

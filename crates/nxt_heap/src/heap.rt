@@ -1,15 +1,15 @@
 ghost use Rattle.std.specs.Prelude.{◌≡◌, ◌+◌, ◌*◌, ◌<◌, ◌≤◌, ℕ, length, slice_index, slice_set, OnOk, OnErr, IfErr, IfOk, IsTrue, ◌%◌, None};
-ghost use Rattle.nxt_model.specs.Footprint.{round4 as rounded, pool_size};
+ghost use Rattle.nxt_types.specs.Pool.{round4 as rounded, pool_size};
 ghost use Rattle.nxt_heap.specs.Dumps.{HoldHeap};
 ghost use Rattle.nxt_heap.specs.Lists.{IsAlive, list_at, stride_at, bytes_at, table_of, footprint, Passes, IsFree, with_free, with_free_row, empty_list, zero_heap, with_list, with_length, with_byte};
 ghost use Rattle.nxt_heap.specs.Pool.{Shows, state_of, IsHeap};
 
 use crate::blocks::{
-    POOL_BYTES, block_bytes, free_block, lay_out, new_list, resize_block, round4, row_bytes,
-    write_byte,
+    block_bytes, free_block, lay_out, new_list, resize_block, row_bytes, write_byte,
 };
 use crate::passed::PoolPassed;
-use nxt_rows::{ROW_BYTES, get};
+use nxt_rows::get;
+use nxt_types::pool::{POOL_BYTES, ROW_BYTES, round4};
 use nxt_types::{Bytes, NoMemory};
 use std::alloc::Global;
 use std::marker::Model;
@@ -43,7 +43,7 @@ impl Heap {
         requires fits { rounded static_size + rounded (10 * rows) ≤ pool_size }
         ensures { IfOk result (λ heap. heap ≡ zero_heap static_size rows) }
     {
-        let mut pool = vec![in alloc; 0; POOL_BYTES]?;
+        let mut pool = vec![in alloc; 0; POOL_BYTES as usize]?;
         let end = start(&mut pool, static_size, rows);
         Ok(Heap {
             pool,
@@ -113,7 +113,7 @@ impl Heap {
         let table = table_above(self.static_size);
         let had = block_bytes(get(&self.pool, table, row));
         let footprint = (self.end - had) as u64 + round4(bytes as u64);
-        if footprint > POOL_BYTES as u64 {
+        if footprint > POOL_BYTES {
             return Err(PoolPassed(footprint));
         }
         resize_block(&mut self.pool, table, row, bytes, self.end);
@@ -188,9 +188,15 @@ impl Heap {
     pub fn row_count(&self) -> u16
         ensures rows { result ≡ length self.now.by_row }
         ensures some { 1 ≤ result }
-        ensures first { list_at self.now 0 ≡ None }
     {
         get(&self.pool, table_above(self.static_size), 0).count
+    }
+
+    /// What a heap holds is sound: row 0 is the table's own, and no list. The call does nothing.
+    pub fn is_sound(&self)
+        ensures { list_at self.now 0 ≡ None }
+    {
+        let _end = self.end;
     }
 
     /// Where the table stands in the pool, in bytes.
@@ -219,7 +225,7 @@ fn start(pool: &mut [u8], static_size: u32, rows: u16) -> u32
 {
     let table = table_above(static_size);
     lay_out(pool, table, rows);
-    table + round4(ROW_BYTES as u64 * rows as u64) as u32
+    table + round4(ROW_BYTES * rows as u64) as u32
 }
 
 #[cfg(test)]

@@ -5,10 +5,11 @@ use Rattle.nxt_types.specs.declared.instr.Op.{Op}
 use Rattle.nxt_types.specs.declared.instr.Instr.{Instr}
 use Rattle.nxt_types.specs.Opcodes.{Arity, exactly, several, pairs, arity}
 use Rattle.nxt_types.specs.Statements.{Statement, Spelled, fixed_form, sized_form}
+use Rattle.nxt_types.specs.Words.{left_out}
 
--- the k-th operand; 65535 where there is none
+-- the k-th operand; the word that leaves it out where there is none
 abbrev pub operand : ℕ → List ℕ → ℕ
-operand k args = slice_index_or args k 65535
+operand k args = slice_index_or args k left_out
 
 -- the fixed operands in order
 abbrev pub closed : Statement → Instr
@@ -30,10 +31,10 @@ open_ended at s = record {
   op = s.op;
   cmp = s.cmp;
   a = operand 0 s.args;
-  b = 65535;
-  c = 65535;
-  d = 65535;
-  e = 65535;
+  b = left_out;
+  c = left_out;
+  d = left_out;
+  e = left_out;
   rest_at = at + 3;
   rest = length s.args - 1;
 }

@@ -2,15 +2,13 @@
 
 ghost use Rattle.std.specs.Prelude.{◌≡◌, ◌+◌, ◌≤◌, ◌<◌, ◌==◌, ℕ, [], Bool, false, length, drop, if◌then◌else◌, IsTrue, IfOk, IfErr, Some, None, slice_get};
 ghost use Rattle.nxt_types.specs.Opcodes.{arity, takes, has_comparison, op_of, exactly, several};
-ghost use Rattle.nxt_types.specs.Statements.{Statement, statement, statement_at, IsStatement, statement_of, short_forms, short_form, Short, two, one, sized_form, fixed_form, wait_form, comparison_of, by_arity, long_form, plus_argument};
+ghost use Rattle.nxt_types.specs.Statements.{Statement, statement, statement_at, IsStatement, IsWhole, statement_of, short_forms, short_form, Short, two, one, sized_form, fixed_form, wait_form, comparison_of, by_arity, long_form, plus_argument};
 ghost use Rattle.nxt_instr.specs.Decoded.{instr_of, decoded, placed, closed, open_ended, operand, form_by};
 
 use nxt_types::instr::{Instr, Op};
 use nxt_types::kind::Cmp;
 use nxt_types::opcodes::Arity;
-
-// An operand that isn't there.
-const NONE: u16 = 0xFFFF;
+use nxt_types::words::LEFT_OUT;
 
 /// No statement is spelled at this word of the code.
 #[derive(Clone, Copy, PartialEq, Eq, Debug)]
@@ -25,14 +23,12 @@ pub fn decode(words: &[u16], at: u32) -> Result<(Instr, u32), InstrFault>
     ensures fields { IfOk result (λ r. r.0 ≡ instr_of at (statement_of r.0 words.now)) }
     ensures within { IfOk result (λ r. at + r.1 ≤ length words.now) }
     ensures some { IfOk result (λ r. 1 ≤ r.1) }
-    ensures rest { IfOk result (λ r. r.0.rest_at + r.0.rest ≤ at + r.1) }
-    ensures number { IfOk result (λ r. let s = statement_of r.0 words.now in
-        IsTrue (takes (arity s.op) (length s.args))) }
+    ensures whole { IfOk result (λ r. IsWhole words.now r.0) }
     ensures plain { IfOk result (λ r. has_comparison r.0.op ≡ false → r.0.cmp ≡ Cmp.Lt) }
 
     ensures fault { IfErr result (λ f. (f.0 ≡ at) × (statement_at (drop at words.now) ≡ None)) }
 
-    // At most one statement is spelled at a word.
+    // A law over the definition, which is proved here: at most one statement is spelled at a word.
     ensures only { (s t : Statement) (m n : ℕ) →
         IsStatement words.now at s m → IsStatement words.now at t n → (s ≡ t) × (m ≡ n) }
 {
@@ -213,10 +209,10 @@ fn open_ended(op: Op, operands: &[u16], rest_at: u32) -> Instr
         op,
         cmp: Cmp::Lt,
         a: operand(operands, 0),
-        b: NONE,
-        c: NONE,
-        d: NONE,
-        e: NONE,
+        b: LEFT_OUT,
+        c: LEFT_OUT,
+        d: LEFT_OUT,
+        e: LEFT_OUT,
         rest_at,
         rest: operands.len().saturating_sub(1) as u16,
     }
@@ -225,5 +221,5 @@ fn open_ended(op: Op, operands: &[u16], rest_at: u32) -> Instr
 fn operand(operands: &[u16], k: usize) -> u16
     ensures { result ≡ operand k operands.now }
 {
-    operands.get(k).copied().unwrap_or(NONE)
+    operands.get(k).copied().unwrap_or(LEFT_OUT)
 }

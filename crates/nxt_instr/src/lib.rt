@@ -7,6 +7,3 @@ mod encoding;
 
 pub use decoding::{InstrFault, decode};
 pub use encoding::encode;
-
-#[cfg(test)]
-mod tests;

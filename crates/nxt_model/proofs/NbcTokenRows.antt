@@ -1,11 +1,11 @@
 -- Worked texts: tokens and forms.
 use Rattle.std.proofs.Common.{◌≡◌, ℕ, [], ◌∷◌, refl, Ok, Err, Some, true}
-use Rattle.std.specs.Prelude.{codes, negsuc}
+use Rattle.std.specs.Prelude.{codes, negsuc, option_map}
 use Rattle.nxt_model.specs.Nbc.Tokens.{Token, tokens_of, Name, Number, Quoted, lines_of}
 use Rattle.nxt_model.specs.Nbc.Types.{struct_named, shape_of_struct}
 use Rattle.nxt_model.specs.Nbc.Header.{header_types, constant_named}
-use Rattle.nxt_types.specs.Calls.{DrawText, ReadMessage, is_cluster_of}
-use Rattle.std.specs.Prelude.{option_map}
+use Rattle.nxt_types.specs.Calls.{is_cluster_of}
+use Rattle.nxt_types.specs.declared.calls.Call.TheVariants.{DrawText, ReadMessage}
 
 abbrev token : ℕ → ℕ → ℕ → Token
 token line at len = record { line = line; at = at; len = len }

@@ -7,7 +7,8 @@ use Rattle.nxt_model.specs.Means.Text.{body, ended}
 use Rattle.nxt_model.specs.Devices.{Devices, Change, changed, Button, tone, set_sound, put_message, mailbox, without_oldest}
 use Rattle.nxt_model.specs.declared.line.Line.{Line}
 use Rattle.nxt_model.specs.declared.line.Line.TheVariants as lines
-pub use Rattle.nxt_types.specs.Calls.{Call, PlayTone, GetSound, SetSound, DrawText, DrawPoint, DrawLine, DrawCircle, DrawRect, SetScreen, ReadButton, RandomNumber, StartTick, WriteMessage, ReadMessage, KeepAlive, call_number, all_calls, call_of}
+use Rattle.nxt_types.specs.declared.calls.Call.{Call}
+use Rattle.nxt_types.specs.declared.calls.Call.TheVariants.{PlayTone, GetSound, SetSound, DrawText, DrawPoint, DrawLine, DrawCircle, DrawRect, SetScreen, ReadButton, RandomNumber, StartTick, WriteMessage, ReadMessage, KeepAlive}
 
 -- the moment, and the moment of the program's start
 pub record Clock : Type 0 where

@@ -6,6 +6,7 @@ ghost use Rattle.std.specs.List.{SameBelow, SameFrom};
 ghost use Rattle.nxt_rows.specs.Rows.{u16_at, dope_row, row_count, IsTable, KeepsOutside, free_rows, IsFreeChain, IsAlive, KeepsOthers, empty_row_of, free_row_of};
 
 use byteorder::{ByteOrder, LittleEndian};
+use nxt_types::pool::ROW_BYTES;
 
 /// A row of the dope table: where a list's bytes stand in the pool, how far its elements are apart in bytes, how many
 /// they are, the back pointer, and the next row of the chain.
@@ -46,9 +47,6 @@ impl DopeRow {
     }
 }
 
-/// How many bytes a row takes.
-pub const ROW_BYTES: usize = 10;
-
 /// The place of a row whose list is empty.
 pub const NO_PLACE: u16 = 0xFFFF;
 
@@ -73,7 +71,7 @@ fn write_u16(pool: &mut [u8], at: usize, n: u16)
 fn row_at(table: u32, row: u16) -> usize
     ensures { result ≡ table + 10 * row }
 {
-    table as usize + ROW_BYTES * row as usize
+    table as usize + ROW_BYTES as usize * row as usize
 }
 
 /// The row of that number in the table at byte `table` of the pool.
@@ -169,49 +167,4 @@ pub fn spare(pool: &[u8], table: u32) -> u16
         row = get(pool, table, row).link;
     }
     free
-}
-
-#[cfg(test)]
-mod tests {
-    use super::*;
-    use std::test::Fail;
-
-    #[test]
-    fn a_row_is_five_words_low_byte_first(rt: HostRuntime) -> Result<(), Fail> {
-        let mut pool = [0xEE; 40];
-        let row = DopeRow {
-            place: 0x1234,
-            stride: 1,
-            count: 0x0300,
-            back: 0,
-            link: 2,
-        };
-        set(&mut pool, 4, 2, row);
-        assert_eq!(rt;
-            &pool[22..36],
-            [0xEE, 0xEE, 0x34, 0x12, 1, 0, 0, 3, 0, 0, 2, 0, 0xEE, 0xEE].as_slice()
-        );
-        assert_eq!(rt; get(&pool, 4, 2), row);
-        Ok(())
-    }
-
-    #[test]
-    fn a_freed_row_is_taken_again(rt: HostRuntime) -> Result<(), Fail> {
-        let mut pool = [0; 40];
-        let first = DopeRow {
-            place: 8,
-            stride: 10,
-            count: 2,
-            back: 0,
-            link: 0,
-        };
-        set(&mut pool, 8, 0, first);
-        assert_eq!(rt; take_row(&mut pool, 8, 7), None);
-        free_row(&mut pool, 8, 1);
-        assert_eq!(rt; spare(&pool, 8), 1);
-        assert_eq!(rt; take_row(&mut pool, 8, 7), Some(1));
-        assert_eq!(rt; get(&pool, 8, 1), DopeRow::empty(7));
-        assert_eq!(rt; spare(&pool, 8), 0);
-        Ok(())
-    }
 }

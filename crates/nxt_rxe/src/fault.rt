@@ -1,6 +1,7 @@
 // Why a file is refused.
 
 use nxt_types::memory;
+use nxt_types::refusal::BrokenRule;
 
 /// The first broken rule of a file's sections. The numbers are what a refusal shows beside the rule.
 #[derive(Clone, Copy, PartialEq, Eq, Debug)]
@@ -26,5 +27,25 @@ impl From<memory::NoMemory> for RxeFault {
 
     fn from(_: memory::NoMemory) -> Self {
         RxeFault::NoMemory
+    }
+}
+
+impl RxeFault {
+    ghost use Rattle.std.specs.Prelude.{◌≡◌, IfOk, OnErr};
+    ghost use Rattle.nxt_types.specs.BrokenRules.{rule_and_place};
+    ghost use Rattle.nxt_rxe.specs.FileRules.{rank};
+
+    /// The broken rule with its place; an `Err` where there was no memory.
+    pub fn broken_rule(self) -> Result<BrokenRule, memory::NoMemory>
+        ensures rule { IfOk result (λ b. rule_and_place b ≡ rank self) }
+        ensures memory { OnErr result (self ≡ RxeFault.NoMemory) }
+    {
+        match self {
+            RxeFault::Short(bytes) => Ok(BrokenRule::at(1, bytes)),
+            RxeFault::Format(byte) => Ok(BrokenRule::at(2, byte)),
+            RxeFault::Version(version) => Ok(BrokenRule::at(3, u32::from(version))),
+            RxeFault::Section(section) => Ok(BrokenRule::at(4, u32::from(section))),
+            RxeFault::NoMemory => Err(memory::NoMemory),
+        }
     }
 }

@@ -13,7 +13,4 @@ mod sections;
 
 pub use fault::RxeFault;
 pub use file::{read_rxe, write_rxe};
-pub use parts::{Header, Parts};
-
-#[cfg(test)]
-mod tests;
+pub use parts::{CodeSections, Header, Parts};

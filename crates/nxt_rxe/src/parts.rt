@@ -44,3 +44,11 @@ pub struct Parts {
     /// The code words.
     pub code: Words,
 }
+
+/// The clumps of a file, and the code that they run.
+#[derive(Drop)]
+pub struct CodeSections {
+    pub clumps: ClumpRecs,
+    pub dependents: Bytes,
+    pub code: Words,
+}

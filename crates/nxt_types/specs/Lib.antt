@@ -1,4 +1,7 @@
+pub mod Pool
+pub mod Words
 pub mod Refusals
+pub mod BrokenRules
 pub mod Arithmetic
 pub mod Shapes
 pub mod Names
@@ -7,6 +10,7 @@ pub mod Opcodes
 pub mod Arities
 pub mod Statements
 pub mod Calls
+pub mod CallsSeen
 pub mod OperandRules
 pub mod Mnemonics
 pub mod ShapeCodes

@@ -1,12 +1,16 @@
 -- Which operands a statement may have.
-use Rattle.std.specs.Prelude.{ℕ, Bool, true, false, ◌&&◌, ◌||◌, not, if◌then◌else◌, ◌==◌, nat_lt, nat_le, List, [], ◌∷◌, map, zip, drop, length, slice_index_or, Option, Some, None}
+use Rattle.std.specs.Prelude.{◌≡◌, ◌<◌, ℕ, Bool, true, false, ◌&&◌, ◌||◌, not, if◌then◌else◌, ◌==◌, nat_lt, nat_le, List, [], ◌∷◌, map, zip, drop, length, slice_index_or, Option, Some, None}
 use Rattle.nxt_types.specs.Shapes.{Shape, Void, Number, Array, Cluster, Mutex, Members, convertible, has_list, is_number, is_numbers}
 use Rattle.nxt_types.specs.Names.{Name, named}
-use Rattle.nxt_types.specs.Opcodes.{Class, Written, Read, Listed, Text, Anything, Mutexed, Immediate, Clumped, Offset, optional, classes}
+use Rattle.nxt_types.specs.Opcodes.{classes}
+use Rattle.nxt_types.specs.declared.opcodes.Class.{Class}
+use Rattle.nxt_types.specs.declared.opcodes.Class.TheVariants.{Written, Read, Listed, Text, Anything, Mutexed, Immediate, Clumped, Offset, OptionalWritten, OptionalRead}
 use Rattle.nxt_types.specs.Statements.{Statement}
-use Rattle.nxt_types.specs.Calls.{Call, call_of, is_cluster_of, is_text}
+use Rattle.nxt_types.specs.Calls.{call_of, is_cluster_of, is_text}
+use Rattle.nxt_types.specs.declared.calls.Call.{Call}
 use Rattle.nxt_types.specs.declared.instr.Op.{Op}
 use Rattle.nxt_types.specs.declared.instr.Op.TheVariants as ops
+use Rattle.nxt_types.specs.Words.{left_out, last_input, last_output}
 
 -- ---- what an operand is
 
@@ -26,7 +30,8 @@ abbrev pub sort_of : Members → Class → ℕ → Sort
 sort_of ss Immediate w = Word w
 sort_of ss Clumped w = Word w
 sort_of ss Offset w = Word w
-sort_of ss (optional c) w = if w == 0xFFFF then Absent else sort_of ss c w
+sort_of ss OptionalWritten w = if w == left_out then Absent else sort_of_name (named ss w)
+sort_of ss OptionalRead w = if w == left_out then Absent else sort_of_name (named ss w)
 sort_of ss _ w = sort_of_name (named ss w)
 
 abbrev pub sorts_of : Members → Statement → List Sort
@@ -72,7 +77,8 @@ is_of_class clumps Mutexed o = is_mutex (shape_of o)
 is_of_class clumps Immediate o = true
 is_of_class clumps Clumped o = nat_lt (word_of o) clumps
 is_of_class clumps Offset o = true
-is_of_class clumps (optional c) o = is_absent o || is_of_class clumps c o
+is_of_class clumps OptionalWritten o = is_absent o || is_number (shape_of o)
+is_of_class clumps OptionalRead o = is_absent o || is_number (shape_of o)
 
 -- ---- beside the others
 
@@ -155,10 +161,10 @@ asked _ s w os = []
 -- what is asked of the numbers of calls and properties
 abbrev pub allowed : Op → (ℕ → ℕ) → List Sort → List Bool
 allowed ops.Syscall w os = is_call (call_of (w 0)) ∷ []
-allowed ops.Setin w os = true ∷ true ∷ nat_le (w 2) 5 ∷ []
-allowed ops.Getin w os = true ∷ true ∷ nat_le (w 2) 5 ∷ []
-allowed ops.Setout w os = true ∷ pairs_fit 14 (drop 1 os)
-allowed ops.Getout w os = true ∷ true ∷ nat_le (w 2) 14 ∷ []
+allowed ops.Setin w os = true ∷ true ∷ nat_le (w 2) last_input ∷ []
+allowed ops.Getin w os = true ∷ true ∷ nat_le (w 2) last_input ∷ []
+allowed ops.Setout w os = true ∷ pairs_fit last_output (drop 1 os)
+allowed ops.Getout w os = true ∷ true ∷ nat_le (w 2) last_output ∷ []
 allowed _ w os = []
 
 abbrev pub sort_at : List Sort → ℕ → Sort
@@ -177,6 +183,11 @@ is_allowed op os k = slice_index_or (allowed op (λ i. word_of (sort_at os i)) o
 
 abbrev pub operand_fits : ℕ → Op → List Sort → ℕ → Bool
 operand_fits clumps op os k = has_kind clumps op os k && is_allowed op os k
+
+-- all operands of a statement, counted from 0, are of their classes and fit one another, in a program of so many clumps
+pub record AreFit (ss : Members) (s : Statement) : Type 0 where
+  pub clumps : ℕ
+  pub fit : (k : ℕ) → k < length s.args → operand_fits clumps s.op (sorts_of ss s) k ≡ true
 
 -- ---- destinations
 

@@ -1,12 +1,49 @@
-// The table of the operations: codes, names and numbers of operands.
+// The table of the operations: codes, names and classes of operands.
 
 ghost use Rattle.std.specs.Prelude.{◌≡◌, ◌<◌, ◌≤◌, ℕ, slice_get, Some};
-ghost use Rattle.nxt_types.specs.Opcodes.{opcode, op_of, op_name, op_named, has_comparison, arity, exactly, takes};
-ghost use Rattle.nxt_types.specs.Arities.{as_arity};
+ghost use Rattle.nxt_types.specs.Opcodes.{row as row_of, plain as plain_row, comparing as comparing_row, fixed as fixed_operands, opcode, op_of, op_name, op_named, has_comparison, arity as arity_of_op, class_in, exactly, takes, all_ops};
+ghost use Rattle.nxt_types.specs.Arities.{as_arity, row_seen, operands_seen};
 ghost use Rattle.nxt_types.specs.Statements.{comparison_number, comparisons};
 
 use crate::instr::Op;
 use crate::kind::Cmp;
+
+/// What an operand may be (Executable File Specification, "Bytecode Instructions").
+#[derive(Clone, Copy, PartialEq, Eq, Debug)]
+pub enum Class {
+    /// A number that is written.
+    Written,
+    /// A number that is read.
+    Read,
+    /// A list.
+    Listed,
+    /// A list of ubyte.
+    Text,
+    /// A number, a list or a group.
+    Anything,
+    /// A mutex.
+    Mutexed,
+    /// A plain number: no index of an entry.
+    Immediate,
+    /// The number of a clump.
+    Clumped,
+    /// A jump's offset.
+    Offset,
+    /// A number that is written, or left out.
+    OptionalWritten,
+    /// A number that is read, or left out.
+    OptionalRead,
+}
+
+/// The classes of the operands that an operation takes.
+#[derive(Clone, Copy)]
+pub enum Operands {
+    Fixed(&'static [Class]),
+    /// A first one, and one or more others.
+    FirstAndMore(Class, Class),
+    /// A first one, and one or more pairs.
+    FirstAndPairs(Class, Class, Class),
+}
 
 /// How many operands an operation takes.
 #[derive(Clone, Copy, PartialEq, Eq, Debug)]
@@ -31,113 +68,213 @@ impl Arity {
     }
 }
 
+impl Operands {
+    /// The class of operand k, counted from 0.
+    pub fn class(self, k: usize) -> Class
+        ensures { result ≡ class_in (operands_seen self) k }
+    {
+        match self {
+            Operands::Fixed(classes) => match classes.get(k) {
+                Some(class) => *class,
+                None => Class::Immediate,
+            },
+            Operands::FirstAndMore(first, others) => { if k == 0 { first } else { others } }
+            Operands::FirstAndPairs(first, left, right) => {
+                if k == 0 {
+                    first
+                } else if k % 2 == 1 {
+                    left
+                } else {
+                    right
+                }
+            }
+        }
+    }
+}
+
+/// A row of the table of operations (Executable File Specification, "Bytecode Instructions").
+#[derive(Clone, Copy)]
+pub struct OpcodeRow {
+    pub code: u8,
+    /// The name in NBC texts and listings.
+    pub name: &'static str,
+    /// Whether the first word of the long form names a comparison.
+    pub compares: bool,
+    pub operands: Operands,
+}
+
+fn plain(code: u8, name: &'static str, operands: Operands) -> OpcodeRow
+    ensures { row_seen result ≡ plain_row code name.now (operands_seen operands) }
+{
+    OpcodeRow {
+        code,
+        name,
+        compares: false,
+        operands,
+    }
+}
+
+fn comparing(code: u8, name: &'static str, operands: Operands) -> OpcodeRow
+    ensures { row_seen result ≡ comparing_row code name.now (operands_seen operands) }
+{
+    OpcodeRow {
+        code,
+        name,
+        compares: true,
+        operands,
+    }
+}
+
+fn fixed(classes: &'static [Class]) -> Operands
+    ensures { operands_seen result ≡ fixed_operands classes.now }
+{
+    Operands::Fixed(classes)
+}
+
+/// Every operation, in order of code.
+pub const ALL_OPS: [Op; 45] = [
+    Op::Add,
+    Op::Sub,
+    Op::Neg,
+    Op::Mul,
+    Op::Div,
+    Op::Mod,
+    Op::And,
+    Op::Or,
+    Op::Xor,
+    Op::Not,
+    Op::Cmp,
+    Op::Tst,
+    Op::Index,
+    Op::Replace,
+    Op::Arrsize,
+    Op::Arrbuild,
+    Op::Arrsubset,
+    Op::Arrinit,
+    Op::Mov,
+    Op::Set,
+    Op::Flatten,
+    Op::Unflatten,
+    Op::Numtostr,
+    Op::Strtonum,
+    Op::Strcat,
+    Op::Strsubset,
+    Op::Strtoarr,
+    Op::Arrtostr,
+    Op::Jmp,
+    Op::Brcmp,
+    Op::Brtst,
+    Op::Syscall,
+    Op::Stop,
+    Op::Finclump,
+    Op::Finclumpimmed,
+    Op::Acquire,
+    Op::Release,
+    Op::Subcall,
+    Op::Subret,
+    Op::Setin,
+    Op::Setout,
+    Op::Getin,
+    Op::Getout,
+    Op::Wait,
+    Op::Gettick,
+];
+
 impl Op {
-    /// The opcode (Executable File Specification, "Bytecode Instructions").
+    /// Its row of the table of operations.
+    pub fn row(self) -> OpcodeRow
+        ensures { row_seen result ≡ row_of self }
+    {
+        use Class::{
+            Anything, Clumped, Immediate, Listed, Mutexed, Offset, OptionalRead, OptionalWritten,
+            Read, Text, Written,
+        };
+        match self {
+            Op::Add => plain(0x00, "add", fixed(&[Anything, Anything, Anything])),
+            Op::Sub => plain(0x01, "sub", fixed(&[Anything, Anything, Anything])),
+            Op::Neg => plain(0x02, "neg", fixed(&[Anything, Anything])),
+            Op::Mul => plain(0x03, "mul", fixed(&[Anything, Anything, Anything])),
+            Op::Div => plain(0x04, "div", fixed(&[Anything, Anything, Anything])),
+            Op::Mod => plain(0x05, "mod", fixed(&[Anything, Anything, Anything])),
+            Op::And => plain(0x06, "and", fixed(&[Anything, Anything, Anything])),
+            Op::Or => plain(0x07, "or", fixed(&[Anything, Anything, Anything])),
+            Op::Xor => plain(0x08, "xor", fixed(&[Anything, Anything, Anything])),
+            Op::Not => plain(0x09, "not", fixed(&[Anything, Anything])),
+            Op::Cmp => comparing(0x11, "cmp", fixed(&[Anything, Anything, Anything])),
+            Op::Tst => comparing(0x12, "tst", fixed(&[Anything, Anything])),
+            Op::Index => plain(0x15, "index", fixed(&[Anything, Listed, OptionalRead])),
+            Op::Replace => plain(
+                0x16,
+                "replace",
+                fixed(&[Listed, Listed, OptionalRead, Anything]),
+            ),
+            Op::Arrsize => plain(0x17, "arrsize", fixed(&[Written, Listed])),
+            Op::Arrbuild => plain(0x18, "arrbuild", Operands::FirstAndMore(Listed, Anything)),
+            Op::Arrsubset => plain(
+                0x19,
+                "arrsubset",
+                fixed(&[Listed, Listed, OptionalRead, OptionalRead]),
+            ),
+            Op::Arrinit => plain(0x1A, "arrinit", fixed(&[Listed, Anything, Read])),
+            Op::Mov => plain(0x1B, "mov", fixed(&[Anything, Anything])),
+            Op::Set => plain(0x1C, "set", fixed(&[Written, Immediate])),
+            Op::Flatten => plain(0x1D, "flatten", fixed(&[Text, Anything])),
+            Op::Unflatten => plain(
+                0x1E,
+                "unflatten",
+                fixed(&[Anything, OptionalWritten, Text, Anything]),
+            ),
+            Op::Numtostr => plain(0x1F, "numtostr", fixed(&[Text, Read])),
+            Op::Strtonum => plain(
+                0x20,
+                "strtonum",
+                fixed(&[Written, OptionalWritten, Text, OptionalRead, OptionalRead]),
+            ),
+            Op::Strcat => plain(0x21, "strcat", Operands::FirstAndMore(Text, Text)),
+            Op::Strsubset => plain(
+                0x22,
+                "strsubset",
+                fixed(&[Text, Text, OptionalRead, OptionalRead]),
+            ),
+            Op::Strtoarr => plain(0x23, "strtoarr", fixed(&[Text, Text])),
+            Op::Arrtostr => plain(0x24, "arrtostr", fixed(&[Text, Text])),
+            Op::Jmp => plain(0x25, "jmp", fixed(&[Offset])),
+            Op::Brcmp => comparing(0x26, "brcmp", fixed(&[Offset, Anything, Anything])),
+            Op::Brtst => comparing(0x27, "brtst", fixed(&[Offset, Read])),
+            Op::Syscall => plain(0x28, "syscall", fixed(&[Immediate, Anything])),
+            Op::Stop => plain(0x29, "stop", fixed(&[OptionalRead])),
+            Op::Finclump => plain(0x2A, "finclump", fixed(&[Immediate, Immediate])),
+            Op::Finclumpimmed => plain(0x2B, "finclumpimmed", fixed(&[Clumped])),
+            Op::Acquire => plain(0x2C, "acquire", fixed(&[Mutexed])),
+            Op::Release => plain(0x2D, "release", fixed(&[Mutexed])),
+            Op::Subcall => plain(0x2E, "subcall", fixed(&[Clumped, Written])),
+            Op::Subret => plain(0x2F, "subret", fixed(&[Read])),
+            Op::Setin => plain(0x30, "setin", fixed(&[Read, Read, Immediate])),
+            Op::Setout => plain(
+                0x31,
+                "setout",
+                Operands::FirstAndPairs(Anything, Immediate, Read),
+            ),
+            Op::Getin => plain(0x32, "getin", fixed(&[Written, Read, Immediate])),
+            Op::Getout => plain(0x33, "getout", fixed(&[Written, Read, Immediate])),
+            Op::Wait => plain(0x34, "wait", fixed(&[OptionalRead])),
+            Op::Gettick => plain(0x35, "gettick", fixed(&[Written])),
+        }
+    }
+
+    /// The opcode.
     pub fn code(self) -> u8
         ensures value { result ≡ opcode self }
         ensures named { op_of result ≡ Some self }
     {
-        match self {
-            Op::Add => 0x00,
-            Op::Sub => 0x01,
-            Op::Neg => 0x02,
-            Op::Mul => 0x03,
-            Op::Div => 0x04,
-            Op::Mod => 0x05,
-            Op::And => 0x06,
-            Op::Or => 0x07,
-            Op::Xor => 0x08,
-            Op::Not => 0x09,
-            Op::Cmp => 0x11,
-            Op::Tst => 0x12,
-            Op::Index => 0x15,
-            Op::Replace => 0x16,
-            Op::Arrsize => 0x17,
-            Op::Arrbuild => 0x18,
-            Op::Arrsubset => 0x19,
-            Op::Arrinit => 0x1A,
-            Op::Mov => 0x1B,
-            Op::Set => 0x1C,
-            Op::Flatten => 0x1D,
-            Op::Unflatten => 0x1E,
-            Op::Numtostr => 0x1F,
-            Op::Strtonum => 0x20,
-            Op::Strcat => 0x21,
-            Op::Strsubset => 0x22,
-            Op::Strtoarr => 0x23,
-            Op::Arrtostr => 0x24,
-            Op::Jmp => 0x25,
-            Op::Brcmp => 0x26,
-            Op::Brtst => 0x27,
-            Op::Syscall => 0x28,
-            Op::Stop => 0x29,
-            Op::Finclump => 0x2A,
-            Op::Finclumpimmed => 0x2B,
-            Op::Acquire => 0x2C,
-            Op::Release => 0x2D,
-            Op::Subcall => 0x2E,
-            Op::Subret => 0x2F,
-            Op::Setin => 0x30,
-            Op::Setout => 0x31,
-            Op::Getin => 0x32,
-            Op::Getout => 0x33,
-            Op::Wait => 0x34,
-            Op::Gettick => 0x35,
-        }
+        self.row().code
     }
 
-    /// The operation of an opcode (Executable File Specification, "Bytecode Instructions").
+    /// The operation of an opcode.
     pub fn from_code(code: u8) -> Option<Op>
         ensures { result ≡ op_of code }
     {
-        match code {
-            0x00 => Some(Op::Add),
-            0x01 => Some(Op::Sub),
-            0x02 => Some(Op::Neg),
-            0x03 => Some(Op::Mul),
-            0x04 => Some(Op::Div),
-            0x05 => Some(Op::Mod),
-            0x06 => Some(Op::And),
-            0x07 => Some(Op::Or),
-            0x08 => Some(Op::Xor),
-            0x09 => Some(Op::Not),
-            0x11 => Some(Op::Cmp),
-            0x12 => Some(Op::Tst),
-            0x15 => Some(Op::Index),
-            0x16 => Some(Op::Replace),
-            0x17 => Some(Op::Arrsize),
-            0x18 => Some(Op::Arrbuild),
-            0x19 => Some(Op::Arrsubset),
-            0x1A => Some(Op::Arrinit),
-            0x1B => Some(Op::Mov),
-            0x1C => Some(Op::Set),
-            0x1D => Some(Op::Flatten),
-            0x1E => Some(Op::Unflatten),
-            0x1F => Some(Op::Numtostr),
-            0x20 => Some(Op::Strtonum),
-            0x21 => Some(Op::Strcat),
-            0x22 => Some(Op::Strsubset),
-            0x23 => Some(Op::Strtoarr),
-            0x24 => Some(Op::Arrtostr),
-            0x25 => Some(Op::Jmp),
-            0x26 => Some(Op::Brcmp),
-            0x27 => Some(Op::Brtst),
-            0x28 => Some(Op::Syscall),
-            0x29 => Some(Op::Stop),
-            0x2A => Some(Op::Finclump),
-            0x2B => Some(Op::Finclumpimmed),
-            0x2C => Some(Op::Acquire),
-            0x2D => Some(Op::Release),
-            0x2E => Some(Op::Subcall),
-            0x2F => Some(Op::Subret),
-            0x30 => Some(Op::Setin),
-            0x31 => Some(Op::Setout),
-            0x32 => Some(Op::Getin),
-            0x33 => Some(Op::Getout),
-            0x34 => Some(Op::Wait),
-            0x35 => Some(Op::Gettick),
-            _ => None,
-        }
+        ALL_OPS.iter().copied().find(|op| op.code() == code)
     }
 
     /// The name in NBC texts and listings.
@@ -145,110 +282,33 @@ impl Op {
         ensures value { result.now ≡ op_name self }
         ensures named { op_named result.now ≡ Some self }
     {
-        match self {
-            Op::Add => "add",
-            Op::Sub => "sub",
-            Op::Neg => "neg",
-            Op::Mul => "mul",
-            Op::Div => "div",
-            Op::Mod => "mod",
-            Op::And => "and",
-            Op::Or => "or",
-            Op::Xor => "xor",
-            Op::Not => "not",
-            Op::Cmp => "cmp",
-            Op::Tst => "tst",
-            Op::Index => "index",
-            Op::Replace => "replace",
-            Op::Arrsize => "arrsize",
-            Op::Arrbuild => "arrbuild",
-            Op::Arrsubset => "arrsubset",
-            Op::Arrinit => "arrinit",
-            Op::Mov => "mov",
-            Op::Set => "set",
-            Op::Flatten => "flatten",
-            Op::Unflatten => "unflatten",
-            Op::Numtostr => "numtostr",
-            Op::Strtonum => "strtonum",
-            Op::Strcat => "strcat",
-            Op::Strsubset => "strsubset",
-            Op::Strtoarr => "strtoarr",
-            Op::Arrtostr => "arrtostr",
-            Op::Jmp => "jmp",
-            Op::Brcmp => "brcmp",
-            Op::Brtst => "brtst",
-            Op::Syscall => "syscall",
-            Op::Stop => "stop",
-            Op::Finclump => "finclump",
-            Op::Finclumpimmed => "finclumpimmed",
-            Op::Acquire => "acquire",
-            Op::Release => "release",
-            Op::Subcall => "subcall",
-            Op::Subret => "subret",
-            Op::Setin => "setin",
-            Op::Setout => "setout",
-            Op::Getin => "getin",
-            Op::Getout => "getout",
-            Op::Wait => "wait",
-            Op::Gettick => "gettick",
-        }
+        self.row().name
     }
 
     /// Whether the first word of the long form names a comparison.
     pub fn has_comparison(self) -> bool
         ensures { result ≡ has_comparison self }
     {
-        matches!(self, Op::Cmp | Op::Tst | Op::Brcmp | Op::Brtst)
+        self.row().compares
     }
 
     /// How many operands it takes, the size word not counted.
     pub fn arity(self) -> Arity
-        ensures value { as_arity result ≡ arity self }
-        ensures few { (n : ℕ) → arity self ≡ exactly n → n ≤ 5 }
+        ensures value { as_arity result ≡ arity_of_op self }
+        ensures few { (n : ℕ) → arity_of_op self ≡ exactly n → n ≤ 5 }
     {
-        match self {
-            Op::Jmp
-            | Op::Stop
-            | Op::Finclumpimmed
-            | Op::Acquire
-            | Op::Release
-            | Op::Subret
-            | Op::Wait
-            | Op::Gettick => Arity::Exactly(1),
-            Op::Neg
-            | Op::Not
-            | Op::Tst
-            | Op::Arrsize
-            | Op::Mov
-            | Op::Set
-            | Op::Flatten
-            | Op::Numtostr
-            | Op::Strtoarr
-            | Op::Arrtostr
-            | Op::Brtst
-            | Op::Syscall
-            | Op::Finclump
-            | Op::Subcall => Arity::Exactly(2),
-            Op::Add
-            | Op::Sub
-            | Op::Mul
-            | Op::Div
-            | Op::Mod
-            | Op::And
-            | Op::Or
-            | Op::Xor
-            | Op::Cmp
-            | Op::Index
-            | Op::Arrinit
-            | Op::Brcmp
-            | Op::Setin
-            | Op::Getin
-            | Op::Getout => Arity::Exactly(3),
-            Op::Replace | Op::Arrsubset | Op::Unflatten | Op::Strsubset => Arity::Exactly(4),
-            Op::Strtonum => Arity::Exactly(5),
-            Op::Arrbuild | Op::Strcat => Arity::Several,
-            Op::Setout => Arity::Pairs,
+        match self.row().operands {
+            Operands::Fixed(classes) => Arity::Exactly(classes.len() as u8),
+            Operands::FirstAndMore(..) => Arity::Several,
+            Operands::FirstAndPairs(..) => Arity::Pairs,
         }
+    }
+
+    /// The class of an operand, counted from 0.
+    pub fn class(self, k: usize) -> Class
+        ensures { result ≡ class_in (row_of self).operands k }
+    {
+        self.row().operands.class(k)
     }
 }
 

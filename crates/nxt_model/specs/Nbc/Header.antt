@@ -1,6 +1,6 @@
 -- The names of NXTDefs.h.
 use Rattle.std.specs.Prelude.{ℕ, ◌+◌, List, [], ◌∷◌, ◌++◌, map, find, codes, bytes_eq, Option, option_map}
-use Rattle.nxt_types.specs.Calls.{PlayTone, GetSound, SetSound, DrawText, DrawPoint, DrawLine, DrawCircle, DrawRect, SetScreen, ReadButton, RandomNumber, StartTick, WriteMessage, ReadMessage, KeepAlive, call_number}
+use Rattle.nxt_types.specs.Calls.{all_calls, call_name, call_number}
 use Rattle.nxt_model.specs.Nbc.Forms.{TypeName, type_name, Form, OpenStruct, CloseStruct, Member}
 use Rattle.nxt_model.specs.Nbc.Types.{Struct, struct_named, types_from}
 
@@ -15,15 +15,7 @@ counted n [] = []
 counted n (name ∷ names) = (name, n) ∷ counted (n + 1) names
 
 abbrev pub call_names : List Constant
-call_names =
-    (codes "SoundPlayTone", call_number PlayTone) ∷ (codes "SoundGetState", call_number GetSound)
-    ∷ (codes "SoundSetState", call_number SetSound) ∷ (codes "DrawText", call_number DrawText)
-    ∷ (codes "DrawPoint", call_number DrawPoint) ∷ (codes "DrawLine", call_number DrawLine)
-    ∷ (codes "DrawCircle", call_number DrawCircle) ∷ (codes "DrawRect", call_number DrawRect)
-    ∷ (codes "SetScreenMode", call_number SetScreen) ∷ (codes "ReadButton", call_number ReadButton)
-    ∷ (codes "RandomNumber", call_number RandomNumber) ∷ (codes "GetStartTick", call_number StartTick)
-    ∷ (codes "MessageWrite", call_number WriteMessage) ∷ (codes "MessageRead", call_number ReadMessage)
-    ∷ (codes "KeepAlive", call_number KeepAlive) ∷ []
+call_names = map (λ c. (call_name c, call_number c)) all_calls
 
 abbrev pub constants : List Constant
 constants =

@@ -5,7 +5,9 @@ use Rattle.std.specs.Ordering.{int_eq}
 use Rattle.nxt_types.specs.Arithmetic.{cut}
 use Rattle.nxt_types.specs.Shapes.{Shape, Number, Array, Mutex}
 use Rattle.nxt_types.specs.Names.{size}
-use Rattle.nxt_types.specs.Opcodes.{Class, Immediate, Clumped, Offset, optional, classes}
+use Rattle.nxt_types.specs.Opcodes.{classes}
+use Rattle.nxt_types.specs.declared.opcodes.Class.{Class}
+use Rattle.nxt_types.specs.declared.opcodes.Class.TheVariants.{Immediate, Clumped, Offset, OptionalWritten, OptionalRead}
 use Rattle.nxt_types.specs.OperandRules.{Sort, Part, Word, Absent, Unknown, has_kind, is_allowed, is_destination}
 use Rattle.nxt_types.specs.declared.instr.Op.{Op}
 use Rattle.nxt_types.specs.declared.kind.Kind.TheVariants.{Slong}
@@ -163,8 +165,10 @@ sort_of_denoted c stored AType = Unknown
 sort_of_denoted c stored Missing = Unknown
 
 abbrev pub sort_of_term : Source → ℕ → Class → Bool → Term → Sort
-sort_of_term src line (optional c) stored t =
-    if is_left_out src line t then Absent else sort_of_denoted c stored (denoted src line t)
+sort_of_term src line OptionalWritten stored t =
+    if is_left_out src line t then Absent else sort_of_denoted OptionalWritten stored (denoted src line t)
+sort_of_term src line OptionalRead stored t =
+    if is_left_out src line t then Absent else sort_of_denoted OptionalRead stored (denoted src line t)
 sort_of_term src line c stored t = sort_of_denoted c stored (denoted src line t)
 
 abbrev pub sorts_from : Source → ℕ → Op → ℕ → List (Class × Term) → List Sort

@@ -1,5 +1,5 @@
 use Rattle.std.proofs.Common.{◌≡◌, ◌∙◌, ◌+◌, ◌*◌, sym, ap, arith, None}
-use Rattle.nxt_model.specs.Footprint.{round4}
+use Rattle.nxt_types.specs.Pool.{round4}
 use Rattle.nxt_rows.specs.Rows.{row_count}
 use Rattle.nxt_heap.specs.Lists.{empty_list}
 use Rattle.nxt_heap.specs.Pool.{lists_in}
@@ -23,8 +23,8 @@ overflow_sub-footprint c =
       blocks_before-zero c.args.pool.now c.args.table,
     )
 
-pub returns-then-footprint-clause-full : goal.returns-then-footprint-clause-full
-returns-then-footprint-clause-full c =
+pub returns-then-footprint-gt-POOL_BYTES-clause-full : goal.returns-then-footprint-gt-POOL_BYTES-clause-full
+returns-then-footprint-gt-POOL_BYTES-clause-full c =
     let had = ap (λ r. round4 (10 * r.count)) c.get-row.ensures in
     let more = ap (λ r. round4 (10 * r.count + 10)) c.get-row.ensures in
     let long : 10 * row_count c.args.pool.now c.args.table + 10 ≡ 10 * (row_count c.args.pool.now c.args.table + 1) = omega arith in
@@ -42,7 +42,7 @@ returns-then-footprint-clause-full c =
         block_ends c.args.pool.now c.args.table 0 c.requires.dense.some,
         blocks_before-zero c.args.pool.now c.args.table,
       );
-      above = omega (arith, c.if-footprint.true);
+      above = omega (arith, c.if-footprint-gt-POOL_BYTES.true);
     }
 
 pub add_row-requires-clause-fits : goal.add_row-requires-clause-fits
@@ -57,7 +57,7 @@ add_row-requires-clause-fits c =
       had,
       more,
       ap round4 long,
-      c.if-footprint.false,
+      c.if-footprint-gt-POOL_BYTES.false,
       table-block c.args.pool.now c.args.table c.requires.dense,
       c.requires.end,
       block_ends c.args.pool.now c.args.table 0 c.requires.dense.some,

@@ -1,5 +1,5 @@
 use Rattle.std.proofs.Common.{◌≡◌, ◌∙◌, ◌+◌, ◌*◌, sym, ap, arith}
-use Rattle.nxt_model.specs.Footprint.{round4}
+use Rattle.nxt_types.specs.Pool.{round4}
 use Rattle.nxt_rows.specs.Rows.{dope_row, row_count}
 use Rattle.nxt_heap.specs.Pool.{row_block}
 use Rattle.nxt_heap.proofs.Growing.{Adds, Grown, two_count, two_end, grown_dense, grown_lists, grown_end}

@@ -1,6 +1,6 @@
 use Rattle.std.proofs.Common.{◌≡◌, ◌∙◌, ◌+◌, ◌/◌, sym, ap, arith}
 use Rattle.std.proofs.Math.Nat.{div-le_self}
-use Rattle.nxt_model.specs.Footprint.{round4}
+use Rattle.nxt_types.specs.Pool.{round4}
 use Rattle.nxt_rows.specs.Rows.{dope_row, row_count}
 use Rattle.nxt_heap.specs.Pool.{row_bytes, row_block, start_of}
 use Rattle.nxt_heap.proofs.Places.{le-round4, row_block-is, row_in_pool, start_fits, start_of-le, table_within, block_ends}

@@ -27,14 +27,16 @@ returns-in-Some-clause-within c =
 pub returns-in-Some-clause-some : goal.returns-in-Some-clause-some
 returns-in-Some-clause-some c = (found c.args.words.now c.args.at c.in-Some.found.0 c.in-Some.found.1 c.in-Some.ensures).lies.some
 
-pub returns-in-Some-clause-rest : goal.returns-in-Some-clause-rest
-returns-in-Some-clause-rest c =
-    rest_within c.args.words.now c.args.at c.in-Some.found.0 c.in-Some.found.1 (found c.args.words.now c.args.at c.in-Some.found.0 c.in-Some.found.1 c.in-Some.ensures)
-
-pub returns-in-Some-clause-number : goal.returns-in-Some-clause-number
-returns-in-Some-clause-number c =
+pub returns-in-Some-clause-whole : goal.returns-in-Some-clause-whole
+returns-in-Some-clause-whole c =
     let f = found c.args.words.now c.args.at c.in-Some.found.0 c.in-Some.found.1 c.in-Some.ensures in
-    subst (λ (s : Statement). takes (arity s.op) (length s.args) ≡ true) (sym f.same) f.lies.number
+    let rest = rest_within c.args.words.now c.args.at c.in-Some.found.0 c.in-Some.found.1 f in
+    let left = f.lies.within in
+    let all = length-drop c.args.at c.args.words.now in
+    record {
+      rest = omega (arith, rest, left, all, c.requires.inside);
+      number = subst (λ (s : Statement). takes (arity s.op) (length s.args) ≡ true) (sym f.same) f.lies.number;
+    }
 
 pub returns-in-Some-clause-plain : goal.returns-in-Some-clause-plain
 returns-in-Some-clause-plain c =

@@ -1,5 +1,5 @@
 use Rattle.std.proofs.Common.{◌∙◌, sym, ap}
-use Rattle.nxt_model.specs.Footprint.{round4}
+use Rattle.nxt_types.specs.Pool.{round4}
 use Rattle.nxt_heap.specs.Lists.{bytes_at, bytes_of}
 use Rattle.nxt_heap.proofs.Changes.{lives}
 use Rattle.nxt_heap.proofs.heap.Heap.bytes_of.Goals as goal

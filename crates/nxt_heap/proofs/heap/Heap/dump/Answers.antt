@@ -1,6 +1,6 @@
 use Rattle.std.proofs.Common.{◌≡◌, ◌∙◌, [], sym, ap, subst, arith, length, take}
 use Rattle.std.proofs.lemmas.Grind.{common_steps}
-use Rattle.nxt_model.specs.Footprint.{round4}
+use Rattle.nxt_types.specs.Pool.{round4}
 use Rattle.nxt_heap.specs.Dumps.{HoldHeap}
 use Rattle.nxt_heap.specs.Lists.{footprint, table_of}
 use Rattle.nxt_heap.specs.Pool.{end_of}

@@ -1,6 +1,6 @@
 use Rattle.std.proofs.Common.{◌∙◌, None, ap, arith, length}
 use Rattle.std.proofs.lemmas.List.{with_items_is}
-use Rattle.nxt_model.specs.Footprint.{round4}
+use Rattle.nxt_types.specs.Pool.{round4}
 use Rattle.nxt_heap.specs.Lists.{with_list}
 use Rattle.nxt_heap.specs.Pool.{row_block}
 use Rattle.nxt_heap.proofs.Changes.{Lives, lives, static-kept}

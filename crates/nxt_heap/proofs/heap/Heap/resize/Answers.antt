@@ -1,7 +1,7 @@
 use Rattle.std.proofs.Common.{◌≡◌, ◌∙◌, ap, arith, length}
 use Rattle.std.proofs.lemmas.List.{with_items_is}
 use Rattle.std.specs.Vec.{with_items}
-use Rattle.nxt_model.specs.Footprint.{round4}
+use Rattle.nxt_types.specs.Pool.{round4}
 use Rattle.nxt_heap.specs.Lists.{footprint, with_length}
 use Rattle.nxt_heap.specs.Pool.{row_block, state_of}
 use Rattle.nxt_heap.proofs.Changes.{Lives, lives, static-kept, state-with_length, footprint-with_length}
@@ -33,8 +33,8 @@ overflow_sub-footprint c =
       c.self.invariant.end_is,
     )
 
-pub returns-then-footprint-clause-passed : goal.returns-then-footprint-clause-passed
-returns-then-footprint-clause-passed c =
+pub returns-then-footprint-gt-POOL_BYTES-clause-passed : goal.returns-then-footprint-gt-POOL_BYTES-clause-passed
+returns-then-footprint-gt-POOL_BYTES-clause-passed c =
     let l = lives c.self.inside.pool.items (round4 c.self.inside.static_size) c.args.row (rw (← c.self.view_is) at c.requires.alive) in
     let found = ap row_block (rw (c.table_above-table.ensures, c.deref.ensures.value) at c.get.ensures) in
     let whole = footprint-with_length c.self.inside.pool.items c.self.inside.static_size c.args.row c.args.bytes c.self.invariant.dense l in
@@ -50,7 +50,7 @@ returns-then-footprint-clause-passed c =
         c.self.invariant.end_is,
         block_ends c.self.inside.pool.items (round4 c.self.inside.static_size) c.args.row l.within,
       );
-      above = omega (arith, c.if-footprint.true);
+      above = omega (arith, c.if-footprint-gt-POOL_BYTES.true);
     }
 
 living : (c : goal.After-deref_mut) → Lives c.self.inside.pool.items (round4 c.self.inside.static_size) c.args.row

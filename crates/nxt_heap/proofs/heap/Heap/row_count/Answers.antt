@@ -1,6 +1,6 @@
-use Rattle.std.proofs.Common.{None, ◌∙◌, sym, ap, length, arith}
-use Rattle.nxt_model.specs.Footprint.{round4}
-use Rattle.nxt_heap.proofs.Views.{length-lists_in, lists_in-at, list_in-first}
+use Rattle.std.proofs.Common.{◌∙◌, sym, ap, length, arith}
+use Rattle.nxt_types.specs.Pool.{round4}
+use Rattle.nxt_heap.proofs.Views.{length-lists_in}
 use Rattle.nxt_heap.proofs.Places.{table_within}
 use Rattle.nxt_heap.proofs.heap.Heap.row_count.Goals as goal
 
@@ -14,9 +14,3 @@ returns-clause-rows c =
     ap (λ r. r.count) (rw (c.table_above.ensures, c.deref.ensures.value) at c.get.ensures)
     ∙ sym (length-lists_in c.self.inside.pool.items (round4 c.self.inside.static_size))
     ∙ ap (λ h. length h.by_row) c.self.view_is
-
-pub returns-clause-first : goal.returns-clause-first
-returns-clause-first c =
-    let table = round4 c.self.inside.static_size in
-    rw (← c.self.view_is)
-    (lists_in-at c.self.inside.pool.items table 0 None c.self.invariant.dense.some ∙ list_in-first c.self.inside.pool.items table)

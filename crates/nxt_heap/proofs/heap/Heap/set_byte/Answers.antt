@@ -1,6 +1,6 @@
 use Rattle.std.proofs.Common.{◌∙◌, ◌<◌, sym, ap, length, arith, refl, set, length-set, get_or-set_other}
 use Rattle.std.proofs.Math.Seq.{take-set-lt}
-use Rattle.nxt_model.specs.Footprint.{round4}
+use Rattle.nxt_types.specs.Pool.{round4}
 use Rattle.nxt_heap.proofs.Views.{length-static}
 use Rattle.nxt_heap.proofs.Places.{le-round4}
 use Rattle.nxt_heap.proofs.Kept.{SameAbove, above_kept}

@@ -1,6 +1,6 @@
 use Rattle.std.proofs.Common.{◌≡◌, ◌∙◌, ◌<◌, nat_eq, false, ap, arith}
 use Rattle.std.proofs.lemmas.Bool.{not-true, eqb-false}
-use Rattle.nxt_model.specs.Footprint.{round4}
+use Rattle.nxt_types.specs.Pool.{round4}
 use Rattle.nxt_rows.specs.Rows.{row_count}
 use Rattle.nxt_heap.proofs.Changes.{alive-from}
 use Rattle.nxt_heap.proofs.Places.{row_in_pool}
