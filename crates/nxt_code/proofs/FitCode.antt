@@ -13,14 +13,14 @@ use Rattle.nxt_code.specs.declared.statements.Decoded.{Decoded}
 use Rattle.nxt_code.specs.CodeRules.{Program, Broken, IsFit, IsFitAt, begins, is_jump, may_go_on, leads_nowhere, target, is_refused_operand, is_inside, starts_badly}
 use Rattle.nxt_code.specs.Decoding.{IsDecoded}
 use Rattle.nxt_code.proofs.Tiling.{passed_there, ends_there, ends_at, last_there}
-use Rattle.nxt_code.proofs.Marks.{begins_pos, begins_neg, lacks_at_end, marked_inside}
+use Rattle.nxt_code.proofs.Marks.{begins_pos, begins_neg, lacks_at_end, begun_or_inside}
 
 module _ (p : Program) (code : Decoded) (d : IsDecoded p.words code) (accepted : IsAccepted (Broken p)) where
   abbrev sts : List (ℕ × Statement)
   sts = statements p.words
 
   abbrev end : ℕ
-  end = length code.firsts.items
+  end = length code.numbers.items
 
   module _ (w : ℕ) (s : Statement) (n : ℕ) (here : begins sts w ≡ true) (spelled : statement_at (drop w p.words) ≡ Some (s, n)) where
     fit_operand : (k : ℕ) → k < length s.args → operand_fits (length p.clumps) s.op (sorts_of p.shapes s) k ≡ true
@@ -66,7 +66,7 @@ module _ (p : Program) (code : Decoded) (d : IsDecoded p.words code) (accepted :
       let parts = or_parts (nat_le (length p.words) r.start) (is_inside p.words r.start) good in
       let l : r.start < length p.words = leb-false (length p.words) r.start parts.0 in
       let m : r.start < end = omega (arith, l, all) in
-      sym (d.marked r.start m) ∙ not-false (get_or code.firsts.items r.start false) (marked_inside p.words code d r.start m ∙ parts.1)
+      not-false (begins sts r.start) (begun_or_inside p.words code d r.start m ∙ parts.1)
 
   pub fit : IsFit p
   fit = record { starts = start_begins; each = λ w s n here spelled. fit_at w s n here spelled }

@@ -74,7 +74,7 @@ module _ (words : List ℕ) (code : Decoded) (d : IsDecoded words code) (test : 
   pub found_at : (z : Placed) → i < length xs → test (get_or xs i z).word (statement_of (get_or xs i z).instr words) ≡ true → Finds (passed_at test (statements words)) (Some (get_or xs i z).word)
   found_at z l e =
       let x = get_or xs i z in
-      first_some test words 0 (statements words) (length code.firsts.items) x.word d.tiled
+      first_some test words 0 (statements words) (length code.numbers.items) x.word d.tiled
       (all ∙ ap (λ l. first_of test (map (placed_of words) l)) (drop_more xs i z l)
       ∙ ap (λ b. if b then Some x.word else first_of test (map (placed_of words) (drop (i + 1) xs))) e)
 
@@ -114,13 +114,13 @@ module _ (words : List ℕ) (code : Decoded) (d : IsDecoded words code) (test : 
         ∙ list_any-append (λ s. (s.0 == v) && test j s.1) front (here ∷ behind)
         ∙ ap (λ b. b || (((here.0 == v) && test j here.1) || passed_at (λ _. test j) behind v)) (none_before v j)
 
-    after : Tiles words (end_of words here) behind (length code.firsts.items) × (here.0 < end_of words here)
-    after = tiles_split words 0 front here behind (length code.firsts.items) (subst (λ l. Tiles words 0 l (length code.firsts.items)) split d.tiled)
+    after : Tiles words (end_of words here) behind (length code.numbers.items) × (here.0 < end_of words here)
+    after = tiles_split words 0 front here behind (length code.numbers.items) (subst (λ l. Tiles words 0 l (length code.numbers.items)) split d.tiled)
 
     none_behind : (v j : ℕ) → v ≤ here.0 → passed_at (λ _. test j) behind v ≡ false
     none_behind v j l =
         let k = after.1 in
-        none_there (λ _. test j) behind v (begins_below words (end_of words here) behind (length code.firsts.items) v after.0 (omega (arith, k, l)))
+        none_there (λ _. test j) behind v (begins_below words (end_of words here) behind (length code.numbers.items) v after.0 (omega (arith, k, l)))
 
     pub pair_found : (k : ℕ) → test k here.1 ≡ true → ((j : ℕ) → j < k → test j here.1 ≡ false) → FindsPair (λ w j. passed_at (λ _. test j) (statements words) w) (Some (here.0, k))
     pair_found k e less = (

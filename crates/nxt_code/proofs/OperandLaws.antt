@@ -2,31 +2,21 @@
 use Rattle.std.proofs.Common.{◌≡◌, ◌≢◌, ℕ, zero, suc, ◌+◌, ◌-◌, ◌*◌, ◌<◌, ◌≤◌, ◌==◌, nat_le, nat_lt, ◌%◌, ◌/◌, Bool, true, false, not, ◌&&◌, List, [], ◌∷◌, length, map, drop, refl, sym, ap, ◌∙◌, arith, get_or, Option, Some, None}
 use Rattle.std.specs.Prelude.{if◌then◌else◌, zip}
 use Rattle.std.proofs.lemmas.List.{get_or-map, get_or_past, get_or-drop, length-drop, length-replicate, get_or-replicate}
-use Rattle.std.proofs.lemmas.Bool.{eqb-true, eq-eqb, ne_eqb, and_parts, leb-true, and_from, and_right, lt-ltb, le-leb}
+use Rattle.std.proofs.lemmas.Bool.{eqb-true, eq-eqb, ne_eqb, and_parts, leb-true, and_from, and_left, and_right, lt-ltb, le-leb}
 use Rattle.nxt_code.specs.Places.{Finds}
 use Rattle.nxt_types.specs.declared.instr.Instr.{Instr}
 use Rattle.nxt_types.specs.Shapes.{Shape, Members}
 use Rattle.nxt_types.specs.Names.{Name, named}
-use Rattle.nxt_types.specs.Opcodes.{Operands, fixed, first_and_more, first_and_pairs, arity_of, takes, classes_of, pairs_of, row}
-use Rattle.nxt_types.specs.Opcodes as tables
-use Rattle.nxt_types.specs.Statements.{statement_of}
+use Rattle.nxt_types.specs.Opcodes.{Operands, fixed, first_and_more, first_and_pairs, arity_of, takes, classes_of, pairs_of, class_in, row}
+use Rattle.nxt_types.specs.Statements.{statement_of, IsWhole}
 use Rattle.nxt_types.specs.OperandRules.{Sort, Absent, Unknown, sort_of, sort_of_name, sort_at, word_of, shape_of, pairs_fit, goes_into, is_of_class}
-use Rattle.nxt_code.specs.declared.classes.Class.{Class}
-use Rattle.nxt_code.specs.declared.classes.Class.TheVariants as classes
-use Rattle.nxt_code.specs.OperandsSeen.{class_seen, class_in, fixed_classes, operands, IsWhole}
+use Rattle.nxt_types.specs.declared.opcodes.Class.{Class}
+use Rattle.nxt_types.specs.declared.opcodes.Class.TheVariants as classes
+use Rattle.nxt_code.specs.OperandsSeen.{operands}
 
 -- ---- classes
 
-nothing_there : {X Y : Type 0} (f : X → Y) (xs : List X) (k : ℕ) → map f xs ≡ [] → k < length xs → ⊥
-nothing_there f [] k e l = omega (arith, l)
-nothing_there f (x ∷ xs) k e l = cc
-
-pub class_found : (os : Operands) (cs : List Class) (k : ℕ) (c : Class) → map class_seen cs ≡ fixed_classes os → k < length cs → c ≡ get_or cs k c → class_seen c ≡ class_in os k
-class_found (fixed ds) cs k c e l is = ap class_seen is ∙ sym (get_or-map class_seen cs k c tables.Immediate l) ∙ ap (λ xs. get_or xs k tables.Immediate) e
-class_found (first_and_more d f) cs k c e l is = absurd (nothing_there class_seen cs k e l)
-class_found (first_and_pairs d f g) cs k c e l is = absurd (nothing_there class_seen cs k e l)
-
-count_pairs : (d e : tables.Class) (n : ℕ) → length (pairs_of d e n) ≡ 2 * n
+count_pairs : (d e : Class) (n : ℕ) → length (pairs_of d e n) ≡ 2 * n
 count_pairs d e zero = refl
 count_pairs d e (suc n) = let ih = count_pairs d e n in omega (arith, ih)
 
@@ -46,7 +36,7 @@ count_classes (first_and_pairs c d e) n h =
     let r = count_pairs d e ((n - 1) / 2) in
     omega (arith, l, o, r)
 
-pair_at : (d e : tables.Class) (n j : ℕ) → j < 2 * n → get_or (pairs_of d e n) j tables.Immediate ≡ (if suc j % 2 == 1 then d else e)
+pair_at : (d e : Class) (n j : ℕ) → j < 2 * n → get_or (pairs_of d e n) j classes.Immediate ≡ (if suc j % 2 == 1 then d else e)
 pair_at d e zero j l = absurd (omega (arith, l))
 pair_at d e (suc n) zero l = refl
 pair_at d e (suc n) (suc zero) l = refl
@@ -54,11 +44,11 @@ pair_at d e (suc n) (suc (suc j)) l =
     let m : suc j % 2 ≡ suc (suc (suc j)) % 2 = omega arith in
     pair_at d e n j (omega (arith, l)) ∙ ap (λ r. if r == 1 then d else e) m
 
-class_there : (os : Operands) (n k : ℕ) → takes (arity_of os) n ≡ true → k < n → get_or (classes_of os n) k tables.Immediate ≡ class_in os k
+class_there : (os : Operands) (n k : ℕ) → takes (arity_of os) n ≡ true → k < n → get_or (classes_of os n) k classes.Immediate ≡ class_in os k
 class_there (fixed cs) n k h l = refl
 class_there (first_and_more c d) n zero h l = refl
 class_there (first_and_more c d) n (suc k) h l =
-    get_or-replicate (n - 1) k d tables.Immediate (omega (arith, l)) ∙ sym (ap (λ b. if b then c else d) (ne_eqb (suc k) 0 (λ e. omega (arith, e))))
+    get_or-replicate (n - 1) k d classes.Immediate (omega (arith, l)) ∙ sym (ap (λ b. if b then c else d) (ne_eqb (suc k) 0 (λ e. omega (arith, e))))
 class_there (first_and_pairs c d e) n zero h l = refl
 class_there (first_and_pairs c d e) n (suc k) h l =
     let p = and_parts (nat_le 3 n) (n % 2 == 1) h in
@@ -68,14 +58,14 @@ class_there (first_and_pairs c d e) n (suc k) h l =
 
 -- ---- what an operand is
 
-zipped : (ss : Members) (cs : List tables.Class) (ws : List ℕ) (k : ℕ) → k < length cs → k < length ws →
-    get_or (map (λ p. sort_of ss p.0 p.1) (zip cs ws)) k Unknown ≡ sort_of ss (get_or cs k tables.Immediate) (get_or ws k 0)
+zipped : (ss : Members) (cs : List Class) (ws : List ℕ) (k : ℕ) → k < length cs → k < length ws →
+    get_or (map (λ p. sort_of ss p.0 p.1) (zip cs ws)) k Unknown ≡ sort_of ss (get_or cs k classes.Immediate) (get_or ws k 0)
 zipped ss [] ws k l m = absurd (omega (arith, l))
 zipped ss (c ∷ cs) [] k l m = absurd (omega (arith, m))
 zipped ss (c ∷ cs) (w ∷ ws) zero l m = refl
 zipped ss (c ∷ cs) (w ∷ ws) (suc k) l m = zipped ss cs ws k (omega (arith, l)) (omega (arith, m))
 
-count_zipped : (ss : Members) (cs : List tables.Class) (ws : List ℕ) → length cs ≡ length ws → length (map (λ p. sort_of ss p.0 p.1) (zip cs ws)) ≡ length ws
+count_zipped : (ss : Members) (cs : List Class) (ws : List ℕ) → length cs ≡ length ws → length (map (λ p. sort_of ss p.0 p.1) (zip cs ws)) ≡ length ws
 count_zipped ss [] [] e = refl
 count_zipped ss [] (w ∷ ws) e = absurd (omega (arith, e))
 count_zipped ss (c ∷ cs) [] e = absurd (omega (arith, e))
@@ -91,16 +81,16 @@ module _ (ss : Members) (i : Instr) (words : List ℕ) (is : IsWhole words i) wh
   pub operands_count : length (operands ss i words) ≡ length args
   operands_count = count_zipped ss (classes_of table (length args)) args (count_classes table (length args) is.number)
 
-  pub class_here : (k : ℕ) → k < length args → get_or (classes_of table (length (operands ss i words))) k tables.Immediate ≡ class_in table k
+  pub class_here : (k : ℕ) → k < length args → get_or (classes_of table (length (operands ss i words))) k classes.Immediate ≡ class_in table k
   class_here k l =
-      ap (λ n. get_or (classes_of table n) k tables.Immediate) operands_count ∙ class_there table (length args) k is.number l
+      ap (λ n. get_or (classes_of table n) k classes.Immediate) operands_count ∙ class_there table (length args) k is.number l
 
-  pub sort_there : (k : ℕ) (c : Class) (w : ℕ) → k < length args → class_seen c ≡ class_in table k → w ≡ get_or args k 0 → sort_at (operands ss i words) k ≡ sort_of ss (class_seen c) w
+  pub sort_there : (k : ℕ) (c : Class) (w : ℕ) → k < length args → c ≡ class_in table k → w ≡ get_or args k 0 → sort_at (operands ss i words) k ≡ sort_of ss c w
   sort_there k c w l e f =
       let n = count_classes table (length args) is.number in
       zipped ss (classes_of table (length args)) args k (omega (arith, n, l)) l
       ∙ ap (λ d. sort_of ss d (get_or args k 0)) (class_there table (length args) k is.number l ∙ sym e)
-      ∙ ap (sort_of ss (class_seen c)) (sym f)
+      ∙ ap (sort_of ss c) (sym f)
 
   pub sort_past : (k : ℕ) → length args ≤ k → sort_at (operands ss i words) k ≡ Unknown
   sort_past k l = let n = operands_count in get_or_past (operands ss i words) k Unknown (omega (arith, n, l))
@@ -124,7 +114,7 @@ no_word_left_out : (b : Bool) (o : Option Name) → 0 ≡ word_of (if b then Abs
 no_word_left_out true o = refl
 no_word_left_out false o = no_word o
 
-pub no_number : (ss : Members) (c : Class) (w : ℕ) → c ≢ classes.Immediate → c ≢ classes.Clumped → c ≢ classes.Offset → 0 ≡ word_of (sort_of ss (class_seen c) w)
+pub no_number : (ss : Members) (c : Class) (w : ℕ) → c ≢ classes.Immediate → c ≢ classes.Clumped → c ≢ classes.Offset → 0 ≡ word_of (sort_of ss c w)
 no_number ss classes.Immediate w a b d = absurd (a refl)
 no_number ss classes.Clumped w a b d = absurd (b refl)
 no_number ss classes.Offset w a b d = absurd (d refl)
@@ -188,15 +178,21 @@ module _ (fits : ℕ → Bool) (n : ℕ) where
 
 -- ---- the three tests
 
-pub all_hold : (c A B C : Bool) → A ≡ true → B ≡ true → c ≡ C → c ≡ (A && B && C)
-all_hold c A B C e f g = g ∙ sym (ap (λ x. x && C) (and_from A B e f))
+pub first_fails : (A B C : Bool) → A ≡ false → false ≡ (A && B && C)
+first_fails A B C e = sym (and_left (A && B) C (and_left A B e))
 
-pub one_fails : (v A B C : Bool) → v ≡ false → (A && B) ≡ false → v ≡ (A && B && C)
-one_fails v A B C e f = e ∙ sym (ap (λ x. x && C) f)
+pub last_fails : (A B C : Bool) → C ≡ false → false ≡ (A && B && C)
+last_fails A B C e = sym (and_right (A && B) C e)
+
+pub middle_decides : (v A B C : Bool) → A ≡ true → C ≡ true → v ≡ B → v ≡ (A && B && C)
+middle_decides v true true true e f g = g
+middle_decides v true false true e f g = g
+middle_decides v true B false e f g = cc
+middle_decides v false B C e f g = cc
 
 module _ (ss : Members) (i : Instr) (words : List ℕ) (is : IsWhole words i) where
-  pub class_test_there : (clumps k : ℕ) (c : Class) (w : ℕ) → k < length (statement_of i words).args → class_seen c ≡ class_in (row i.op).operands k → w ≡ get_or (statement_of i words).args k 0 →
-      is_of_class clumps (class_seen c) (sort_of ss (class_seen c) w) ≡ is_of_class clumps (get_or (classes_of (row i.op).operands (length (operands ss i words))) k tables.Immediate) (sort_at (operands ss i words) k)
+  pub class_test_there : (clumps k : ℕ) (c : Class) (w : ℕ) → k < length (statement_of i words).args → c ≡ class_in (row i.op).operands k → w ≡ get_or (statement_of i words).args k 0 →
+      is_of_class clumps c (sort_of ss c w) ≡ is_of_class clumps (get_or (classes_of (row i.op).operands (length (operands ss i words))) k classes.Immediate) (sort_at (operands ss i words) k)
   class_test_there clumps k c w l e f =
-      ap (is_of_class clumps (class_seen c)) (sym (sort_there ss i words is k c w l e f))
+      ap (is_of_class clumps c) (sym (sort_there ss i words is k c w l e f))
       ∙ ap (λ d. is_of_class clumps d (sort_at (operands ss i words) k)) (e ∙ sym (class_here ss i words is k l))

@@ -2,7 +2,9 @@
 use Rattle.std.proofs.Common.{◌≡◌, ◌≢◌, suc, ◌<◌, ◌≤◌, Bool, true, false, ◌&&◌, List, [], ◌∷◌, length, refl, ap, arith, Option, Some, None, option_map}
 use Rattle.nxt_types.specs.declared.kind.Kind.TheVariants.{Ubyte}
 use Rattle.nxt_types.specs.Shapes.{Shape, Void, Number, Array, Cluster, Mutex, members, cluster_of}
-use Rattle.nxt_types.specs.Calls.{Call, Field, cluster_fields, is_text, is_place, is_field, are_fields}
+use Rattle.nxt_types.specs.Calls.{cluster_fields, is_text, is_place, is_field, are_fields}
+use Rattle.nxt_types.specs.declared.calls.Call.{Call}
+use Rattle.nxt_types.specs.declared.calls.Field.{Field}
 use Rattle.nxt_types.specs.OperandRules.{element_of, is_cluster}
 use Rattle.nxt_code.specs.OperandsSeen.{is_ubyte}
 

@@ -1,6 +1,5 @@
 -- When a file is refused for its clumps and code.
-use Rattle.std.specs.Prelude.{◌≡◌, ◌<◌, ℕ, ◌+◌, ◌-◌, Bool, true, false, ◌&&◌, ◌||◌, not, ◌==◌, nat_lt, nat_le, List, [], ◌∷◌, length, take, drop, slice_get, slice_index, ℤ, pos, ◌+ℤ◌, Option, Some, None, is_some, IsTrue}
-use Rattle.std.specs.Int.{cast_signed, w16}
+use Rattle.std.specs.Prelude.{◌≡◌, ◌<◌, ℕ, ◌+◌, ◌-◌, Bool, true, false, ◌&&◌, ◌||◌, not, ◌==◌, nat_lt, nat_le, List, [], ◌∷◌, length, take, drop, slice_get, slice_index, ℤ, pos, Option, Some, None, is_some, IsTrue}
 use Rattle.std.specs.List.{list_any}
 use Rattle.std.specs.Ordering.{int_eq}
 use Rattle.nxt_types.specs.declared.instr.Op.{Op}
@@ -8,7 +7,8 @@ use Rattle.nxt_types.specs.declared.instr.Op.TheVariants as ops
 use Rattle.nxt_types.specs.declared.lists.ClumpRec.{ClumpRec}
 use Rattle.nxt_types.specs.Refusals.{passes}
 use Rattle.nxt_types.specs.Shapes.{Members}
-use Rattle.nxt_types.specs.Statements.{Statement, Spelled, statement_at, statements, IsStatement}
+use Rattle.nxt_types.specs.Statements.{Statement, Spelled, statement_at, statements, IsStatement, landing, offset_of}
+use Rattle.nxt_types.specs.Words.{left_out}
 use Rattle.nxt_types.specs.OperandRules.{sorts_of, operand_fits}
 use Rattle.nxt_code.specs.declared.fault.CodeFault.{CodeFault}
 use Rattle.nxt_code.specs.declared.fault.CodeFault.TheVariants.{ClumpCount, ClumpStart, Dependent, Instr, Operand, Jump, FallsOut, NoMemory}
@@ -89,12 +89,16 @@ is_jump ops.Brcmp = true
 is_jump ops.Brtst = true
 is_jump _ = false
 
--- the word that a jump leads to, from its own first word
+-- the word that the jump at a word leads to
 abbrev pub target : ℕ → Statement → ℤ
-target w s = pos w +ℤ cast_signed w16 (slice_index s.args 0)
+target w s = landing w (offset_of (slice_index s.args 0))
+
+-- one of the statements begins at the word, which is a whole number
+abbrev pub begins_at : List (ℕ × Statement) → ℤ → Bool
+begins_at sts word = list_any (λ t. int_eq (pos t.0) word) sts
 
 abbrev pub leads_nowhere : List ℕ → ℕ → Statement → Bool
-leads_nowhere words w s = is_jump s.op && not (list_any (λ t. int_eq (pos t.0) (target w s)) (statements words))
+leads_nowhere words w s = is_jump s.op && not (begins_at (statements words) (target w s))
 
 abbrev pub is_stray_jump : List ℕ → ℕ → Bool
 is_stray_jump words w = of_statement words w (leads_nowhere words w)
@@ -105,7 +109,7 @@ goes_on ops.Jmp w = false
 goes_on ops.Finclump w = false
 goes_on ops.Finclumpimmed w = false
 goes_on ops.Subret w = false
-goes_on ops.Stop w = not (w == 0xFFFF)
+goes_on ops.Stop w = not (w == left_out)
 goes_on _ w = true
 
 abbrev pub may_go_on : Statement → Bool

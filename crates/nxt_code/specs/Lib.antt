@@ -1,5 +1,5 @@
 pub mod Places
 pub mod CodeRules
-pub mod CodeParts
 pub mod OperandsSeen
 pub mod Decoding
+pub mod Known

@@ -1,31 +1,68 @@
 // What operands owe those beside them.
 
-ghost use Rattle.std.specs.Prelude.{◌≡◌, ◌<◌, length, slice_index_or, true};
+ghost use Rattle.std.specs.Prelude.{◌≡◌, ◌<◌, length, slice_index_or, true, false, IfOk, OnOk};
 ghost use Rattle.nxt_types.specs.Shapes.{Members};
-ghost use Rattle.nxt_types.specs.Statements.{statement_of};
+ghost use Rattle.nxt_types.specs.Statements.{IsWhole, statement_of};
 ghost use Rattle.nxt_types.specs.OperandRules.{sort_at, shape_of, word_of, asked, allowed, arithmetic as arithmetic_tests, comparison as comparison_tests};
-ghost use Rattle.nxt_code.specs.OperandsSeen.{IsWhole, operands, shape_seen};
+ghost use Rattle.nxt_code.specs.Known.{IsKnown};
+ghost use Rattle.nxt_code.specs.OperandsSeen.{operands, shape_seen, asks_all};
 
-use crate::calls::fields_of;
-use crate::operands::{number_at, shape_at};
-use crate::shapes::{
-    are_alike, converts, element, goes_into, has_list, is_cluster, is_number, is_numbers, is_plain,
-};
+use crate::known::Known;
+use crate::operands::{name_at, number_at, shape_at};
+use crate::shapes::{are_alike, is_cluster, is_number, is_numbers, is_plain};
+use nxt_types::NoMemory;
+use nxt_types::calls::Call;
 use nxt_types::instr::{Instr, Op};
 use nxt_types::shape::Shape;
 use nxt_types::toc::Toc;
+use nxt_types::words::{LAST_INPUT, LAST_OUTPUT};
 
 /// Whether operand k, counted from 0, fits the operands before it ("Bytecode Instructions").
-pub fn fits_beside(op: Op, toc: &Toc, instr: &Instr, words: &[u16], k: usize) -> bool
+pub fn fits_beside(
+    known: &mut Known,
+    op: Op,
+    toc: &Toc,
+    instr: &Instr,
+    words: &[u16],
+    k: usize,
+) -> Result<bool, NoMemory>
     requires whole { IsWhole words.now instr.now }
     requires within { k < length (statement_of instr.now words.now).args }
+    requires known { IsKnown toc.now.shapes known.old }
+    ensures fits { let os = operands toc.now.shapes instr.now words.now in
+        IfOk result (λ fits. fits ≡ slice_index_or (asked op (λ i. shape_of (sort_at os i)) (λ i. word_of (sort_at os i)) os) k true) }
+    ensures known { OnOk result (IsKnown toc.now.shapes known.new) }
+{
+    let first = name_at(instr, words, 0);
+    let second = name_at(instr, words, 1);
+    let own = name_at(instr, words, k);
+    match op {
+        Op::Index => Ok(k != 1 || known.takes_element(toc, first, second)?),
+        Op::Replace => match k {
+            1 => known.converts(toc, first, second),
+            3 => known.goes_into(toc, second, own),
+            _ => Ok(true),
+        },
+        Op::Arrbuild => Ok(k == 0 || known.goes_into(toc, first, own)?),
+        Op::Arrsubset | Op::Mov => Ok(k != 1 || known.converts(toc, first, second)?),
+        Op::Arrinit => Ok(k != 1 || known.is_element(toc, first, second)?),
+        Op::Flatten => Ok(k != 1 || !known.has_list(toc, second)?),
+        Op::Unflatten => {
+            Ok(k != 3 || (!known.has_list(toc, own)? && known.converts(toc, first, own)?))
+        }
+        _ => Ok(fits_at_sight(op, toc, instr, words, k)),
+    }
+}
+
+// The same for the statements that ask nothing of all that stands in a shape.
+fn fits_at_sight(op: Op, toc: &Toc, instr: &Instr, words: &[u16], k: usize) -> bool
+    requires { IsWhole words.now instr.now }
     ensures { let os = operands toc.now.shapes instr.now words.now in
-        result ≡ slice_index_or (asked op (λ i. shape_of (sort_at os i)) (λ i. word_of (sort_at os i)) os) k true }
+        asks_all op ≡ false → result ≡ slice_index_or (asked op (λ i. shape_of (sort_at os i)) (λ i. word_of (sort_at os i)) os) k true }
 {
     let first = shape_at(toc, instr, words, 0);
     let second = shape_at(toc, instr, words, 1);
     let third = shape_at(toc, instr, words, 2);
-    let own = shape_at(toc, instr, words, k);
     match op {
         Op::Add | Op::Sub | Op::Mul | Op::Div | Op::Mod | Op::And | Op::Or | Op::Xor => {
             arithmetic(k, first, second, third)
@@ -41,17 +78,6 @@ pub fn fits_beside(op: Op, toc: &Toc, instr: &Instr, words: &[u16], k: usize) ->
             2 => are_alike(second, third),
             _ => true,
         },
-        Op::Index => k != 1 || converts(first, element(second)),
-        Op::Replace => match k {
-            1 => converts(first, second),
-            3 => goes_into(second, own),
-            _ => true,
-        },
-        Op::Arrbuild => k == 0 || goes_into(first, own),
-        Op::Arrsubset | Op::Mov => k != 1 || converts(first, second),
-        Op::Arrinit => k != 1 || converts(element(first), second),
-        Op::Flatten => k != 1 || !has_list(second),
-        Op::Unflatten => k != 3 || (!has_list(own) && converts(first, own)),
         Op::Syscall => k != 1 || is_cluster(number_at(instr, words, 0), second),
         Op::Setout => k != 0 || is_plain(first),
         _ => true,
@@ -96,11 +122,6 @@ fn comparison(k: usize, dest: Option<&Shape>, x: Option<&Shape>, y: Option<&Shap
     }
 }
 
-// The greatest properties of sensors and motors.
-const LAST_INPUT: u16 = 5;
-
-const LAST_OUTPUT: u16 = 14;
-
 /// Whether operand k, counted from 0, is no number of a call or property, or one that there is.
 pub fn is_allowed(op: Op, instr: &Instr, words: &[u16], k: usize) -> bool
     requires { IsWhole words.now instr.now }
@@ -109,7 +130,7 @@ pub fn is_allowed(op: Op, instr: &Instr, words: &[u16], k: usize) -> bool
 {
     let number = number_at(instr, words, k);
     match op {
-        Op::Syscall => k != 0 || fields_of(number).is_some(),
+        Op::Syscall => k != 0 || Call::from_number(number).is_some(),
         Op::Setin | Op::Getin => k != 2 || number <= LAST_INPUT,
         Op::Getout => k != 2 || number <= LAST_OUTPUT,
         Op::Setout => k % 2 == 0 || number <= LAST_OUTPUT,

@@ -28,16 +28,15 @@ fn starts_badly(code: &Decoded, words: &[u16], start: u16) -> bool
     requires { IsDecoded words.now code.now }
     ensures { result ≡ (nat_le (length words.now) start || is_inside words.now start) }
 {
-    let start = usize::from(start);
-    start >= words.len() || is_inside(code, words, start)
+    usize::from(start) >= words.len() || is_inside(code, words, start)
 }
 
 // Whether a word lies in a statement, past its first word.
-fn is_inside(code: &Decoded, words: &[u16], word: usize) -> bool
+fn is_inside(code: &Decoded, words: &[u16], word: u16) -> bool
     requires { IsDecoded words.now code.now }
     ensures { result ≡ is_inside words.now word }
 {
-    word < code.firsts.len() && !code.firsts[word]
+    usize::from(word) < code.numbers.len() && !code.begins_at(i64::from(word))
 }
 
 /// The first clump that has a dependent which names no clump, and the first such position among its dependents.

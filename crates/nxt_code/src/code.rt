@@ -16,27 +16,16 @@ use nxt_types::NoMemory;
 use nxt_types::lists::{Bytes, ClumpRec, ClumpRecs, Words};
 use nxt_types::toc::Toc;
 use std::alloc::Global;
-use std::marker::Model;
 
-/// Code that no rule refuses, with the clumps that run it (Executable File Specification, "Clump Records" and "Bytecode
-/// Instructions").
+/// Code that no rule refuses, with the clumps that run it and its statements (Executable File Specification, "Clump Records"
+/// and "Bytecode Instructions").
 #[derive(Drop)]
 pub struct Code {
-    words: Words,
-    clumps: ClumpRecs,
-    dependents: Bytes,
-}
-
-impl Model for Code {
-    ghost use Rattle.std.specs.Coded.{codes};
-    ghost use Rattle.nxt_types.specs.contracts.lists.ClumpRec as clump_rec;
-    ghost use Rattle.nxt_code.specs.CodeParts.{CodeParts};
-
-    ghost Value = { CodeParts };
-
-    ghost coded = { Prim.hlevel (codes, clump_rec.the_row.coded) };
-
-    ghost view = { λ c. record { words = c.words; clumps = c.clumps; dependents = c.dependents } };
+    pub words: Words,
+    pub clumps: ClumpRecs,
+    /// The dependents of each clump, one clump after another.
+    pub dependents: Bytes,
+    pub decoded: Decoded,
 }
 
 impl Code {
@@ -67,77 +56,80 @@ impl Code {
 pub fn check_code(
     alloc: Global,
     toc: &Toc,
-    clumps: &ClumpRecs,
-    dependents: &Bytes,
-    words: &Words,
+    clumps: ClumpRecs,
+    dependents: Bytes,
+    words: Words,
 ) -> Result<Code, CodeFault>
-    requires dependents { length dependents.now ≡ dependent_count clumps.now }
-    requires few_clumps { length clumps.now ≤ 65535 }
-    requires few_words { length words.now ≤ 65535 }
-    ensures found { OnOk result (IsAccepted (Broken (program toc.now.shapes clumps.now dependents.now words.now))) }
+    requires dependents { length dependents ≡ dependent_count clumps }
+    requires few_clumps { length clumps ≤ 65535 }
+    requires few_words { length words ≤ 65535 }
+    ensures found { OnOk result (IsAccepted (Broken (program toc.now.shapes clumps dependents words))) }
     // Each clump starts at a statement, and each statement is fit to run.
-    ensures fit { OnOk result (IsFit (program toc.now.shapes clumps.now dependents.now words.now)) }
-    ensures parts { IfOk result (λ c. c ≡ record { words = words.now; clumps = clumps.now; dependents = dependents.now }) }
+    ensures fit { OnOk result (IsFit (program toc.now.shapes clumps dependents words)) }
+    ensures parts { IfOk result (λ c. (c.words ≡ words) × (c.clumps ≡ clumps) × (c.dependents ≡ dependents)) }
+    ensures decoded { IfOk result (λ c. IsDecoded words c.decoded) }
 
     // A refusal is the first rule in order of number, at its least place.
     ensures refused { IfErr result (λ f. (f ≡ CodeFault.NoMemory)
-        ⊎ IsRefusal (Broken (program toc.now.shapes clumps.now dependents.now words.now)) rank f) }
+        ⊎ IsRefusal (Broken (program toc.now.shapes clumps dependents words)) rank f) }
 {
-    let code = decode_all(alloc, words.as_slice())?;
+    let decoded = decode_all(alloc, words.as_slice())?;
     match first_fault(
+        alloc,
         toc,
         clumps.as_slice(),
         dependents.as_slice(),
         words.as_slice(),
-        &code,
-    ) {
+        &decoded,
+    )? {
         Some(fault) => Err(fault),
-        None => Ok(copied(
-            alloc,
-            clumps.as_slice(),
-            dependents.as_slice(),
-            words.as_slice(),
-        )?),
+        None => Ok(Code {
+            words,
+            clumps,
+            dependents,
+            decoded,
+        }),
     }
 }
 
 // The first broken rule, at its least place.
 fn first_fault(
+    alloc: Global,
     toc: &Toc,
     clumps: &[ClumpRec],
     dependents: &[u8],
     words: &[u16],
     code: &Decoded,
-) -> Option<CodeFault>
+) -> Result<Option<CodeFault>, NoMemory>
     requires dependents { length dependents.now ≡ dependent_count clumps.now }
     requires few_clumps { length clumps.now ≤ 65535 }
     requires few_words { length words.now ≤ 65535 }
     requires decoded { IsDecoded words.now code.now }
-    ensures none { IfNone result (IsAccepted (Broken (program toc.now.shapes clumps.now dependents.now words.now))) }
-    ensures some { IfSome result (IsRefusal (Broken (program toc.now.shapes clumps.now dependents.now words.now)) rank) }
+    ensures none { IfOk result (λ f. IfNone f (IsAccepted (Broken (program toc.now.shapes clumps.now dependents.now words.now)))) }
+    ensures some { IfOk result (λ f. IfSome f (IsRefusal (Broken (program toc.now.shapes clumps.now dependents.now words.now)) rank)) }
 {
     if let Some(count) = bad_count(clumps.len()) {
-        return Some(CodeFault::ClumpCount(count));
+        return Ok(Some(CodeFault::ClumpCount(count)));
     }
     if let Some(clump) = bad_start(code, words, clumps) {
-        return Some(CodeFault::ClumpStart(clump));
+        return Ok(Some(CodeFault::ClumpStart(clump)));
     }
     if let Some((clump, position)) = bad_dependent(clumps, dependents) {
-        return Some(CodeFault::Dependent(clump, position));
+        return Ok(Some(CodeFault::Dependent(clump, position)));
     }
     if let Some(word) = missing_statement(code, words) {
-        return Some(CodeFault::Instr(word));
+        return Ok(Some(CodeFault::Instr(word)));
     }
-    if let Some((word, operand)) = bad_operand(toc, clumps.len(), code, words) {
-        return Some(CodeFault::Operand(word, operand));
+    if let Some((word, operand)) = bad_operand(alloc, toc, clumps.len(), code, words)? {
+        return Ok(Some(CodeFault::Operand(word, operand)));
     }
     if let Some(word) = stray_jump(code, words) {
-        return Some(CodeFault::Jump(word));
+        return Ok(Some(CodeFault::Jump(word)));
     }
     if let Some(word) = open_end(code, words) {
-        return Some(CodeFault::FallsOut(word));
+        return Ok(Some(CodeFault::FallsOut(word)));
     }
-    None
+    Ok(None)
 }
 
 // A number of clumps that no file may have.
@@ -150,23 +142,4 @@ fn bad_count(clumps: usize) -> Option<u32>
     } else {
         None
     }
-}
-
-fn copied(
-    alloc: Global,
-    clumps: &[ClumpRec],
-    dependents: &[u8],
-    words: &[u16],
-) -> Result<Code, NoMemory>
-    ensures { IfOk result (λ c. c ≡ record { words = words.now; clumps = clumps.now; dependents = dependents.now }) }
-{
-    let mut code = Code {
-        words: Words::new(alloc),
-        clumps: ClumpRecs::new(alloc),
-        dependents: Bytes::new(alloc),
-    };
-    code.words.append(words)?;
-    code.clumps.append(clumps)?;
-    code.dependents.append(dependents)?;
-    Ok(code)
 }

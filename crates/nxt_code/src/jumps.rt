@@ -1,16 +1,14 @@
 // The rules of words, jumps and the last statement.
 
-ghost use Rattle.std.specs.Prelude.{◌≡◌, ◌≤◌, ◌+ℤ◌, pos, length};
-ghost use Rattle.std.specs.Int.{cast_signed, w16};
-ghost use Rattle.std.specs.List.{list_any};
-ghost use Rattle.std.specs.Ordering.{int_eq};
-ghost use Rattle.nxt_types.specs.Statements.{statements, statement_of};
+ghost use Rattle.std.specs.Prelude.{◌≡◌, ◌≤◌, length};
+ghost use Rattle.nxt_types.specs.Statements.{statement_of};
 ghost use Rattle.nxt_code.specs.CodeRules.{lacks_statement, is_stray_jump, falls_out, leads_nowhere as leads_to_nothing, may_go_on as goes_on_behind};
 ghost use Rattle.nxt_code.specs.Decoding.{IsDecoded};
 ghost use Rattle.nxt_code.specs.Places.{Finds};
 
 use crate::statements::{Decoded, Placed};
-use nxt_types::instr::{Instr, Op};
+use nxt_types::instr::{Instr, Op, landing};
+use nxt_types::words::LEFT_OUT;
 
 /// The first word at which a statement is due and none is spelled.
 pub fn missing_statement(code: &Decoded, words: &[u16]) -> Option<u32>
@@ -18,7 +16,7 @@ pub fn missing_statement(code: &Decoded, words: &[u16]) -> Option<u32>
     requires few { length words.now ≤ 65535 }
     ensures { Finds (lacks_statement words.now) result }
 {
-    let end = code.firsts.len();
+    let end = code.numbers.len();
     if end < words.len() {
         Some(end as u32)
     } else {
@@ -45,30 +43,10 @@ fn leads_nowhere(code: &Decoded, words: &[u16], placed: &Placed) -> bool
 {
     match placed.instr.op {
         Op::Jmp | Op::Brcmp | Op::Brtst => {
-            let target = target(placed);
-            !begins_at(code, words, target)
+            !code.begins_at(landing(placed.word, placed.instr.offset()))
         }
         _ => false,
     }
-}
-
-// The word that a jump leads to: its offset is signed, and counts from the jump's own first word.
-fn target(placed: &Placed) -> i64
-    ensures { result ≡ pos placed.now.word +ℤ cast_signed w16 placed.now.instr.a }
-{
-    i64::from(placed.word) + i64::from(placed.instr.a.cast_signed())
-}
-
-// Whether a statement begins at the word.
-fn begins_at(code: &Decoded, words: &[u16], word: i64) -> bool
-    requires { IsDecoded words.now code.now }
-    ensures { result ≡ list_any (λ s. int_eq (pos s.0) word) (statements words.now) }
-{
-    if word < 0 {
-        return false;
-    }
-    let word = word as usize;
-    word < code.firsts.len() && code.firsts[word]
 }
 
 /// The word of the last statement, if the program may go on behind it.
@@ -90,7 +68,7 @@ fn may_go_on(instr: &Instr, words: &[u16]) -> bool
 {
     match instr.op {
         Op::Jmp | Op::Finclump | Op::Finclumpimmed | Op::Subret => false,
-        Op::Stop => instr.a != 0xFFFF,
+        Op::Stop => instr.a != LEFT_OUT,
         _ => true,
     }
 }

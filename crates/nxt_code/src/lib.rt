@@ -3,18 +3,15 @@
 #![tactic(auto)]
 
 mod beside;
-mod calls;
-mod classes;
 mod clumps;
 mod code;
-pub mod fault;
+mod fault;
 mod jumps;
-pub mod operands;
+mod known;
+mod operands;
 mod shapes;
-pub mod statements;
+mod statements;
 
 pub use code::{Code, check_code};
 pub use fault::CodeFault;
-
-#[cfg(test)]
-mod tests;
+pub use statements::{Decoded, Placed};

@@ -3,10 +3,10 @@
 ghost use Rattle.std.specs.Prelude.{◌≡◌, false, map, MatchOption};
 ghost use Rattle.nxt_types.specs.Shapes.{is_number as is_number_shape, is_numbers as is_numbers_shape, has_list as has_list_shape, some_list, convertible as convertible_shapes, members as members_of, cluster_of, tree};
 ghost use Rattle.nxt_types.specs.Calls.{is_text as is_text_shape, is_place as is_place_shape, are_fields as are_fields_of, call_of, is_field as is_field_of};
-ghost use Rattle.nxt_types.specs.OperandRules.{is_list as is_list_shape, is_value as is_value_shape, is_mutex as is_mutex_shape, is_plain as is_plain_shape, are_alike as are_alike_shapes, element_of, goes_into as goes_into_list, is_group, is_cluster as is_cluster_shape};
-ghost use Rattle.nxt_code.specs.OperandsSeen.{shape_seen, field_seen, is_ubyte as is_ubyte_shape};
+ghost use Rattle.nxt_types.specs.OperandRules.{is_list as is_list_shape, is_value as is_value_shape, is_mutex as is_mutex_shape, is_plain as is_plain_shape, are_alike as are_alike_shapes, element_of, is_group, is_cluster as is_cluster_shape};
+ghost use Rattle.nxt_code.specs.OperandsSeen.{shape_seen, is_ubyte as is_ubyte_shape};
 
-use crate::calls::{Field, fields_of};
+use nxt_types::calls::{Call, Field};
 use nxt_types::conversion::convertible;
 use nxt_types::kind::Kind;
 use nxt_types::shape::Shape;
@@ -100,13 +100,6 @@ pub fn converts(to: Option<&Shape>, from: Option<&Shape>) -> bool
     }
 }
 
-/// Whether a value is an element for a list, or a list that converts to it.
-pub fn goes_into(list: Option<&Shape>, shape: Option<&Shape>) -> bool
-    ensures { result ≡ goes_into_list (shape_seen list.entry) (shape_seen shape.entry) }
-{
-    converts(element(list), shape) || converts(list, shape)
-}
-
 // The members of a group.
 fn members(shape: &Shape) -> Option<&[Shape]>
     ensures { MatchOption result (is_group (tree shape.now) ≡ false) (λ shapes. tree shape.now ≡ cluster_of (map tree shapes.now)) }
@@ -160,14 +153,14 @@ pub fn is_cluster(number: u16, shape: Option<&Shape>) -> bool
     let Some(members) = members(shape) else {
         return false;
     };
-    match fields_of(number) {
-        Some(fields) => are_fields(fields, members),
+    match Call::from_number(number) {
+        Some(call) => are_fields(call.fields(), members),
         None => true,
     }
 }
 
 fn are_fields(fields: &[Field], shapes: &[Shape]) -> bool
-    ensures { result ≡ are_fields_of (map field_seen fields.now) (members_of (map tree shapes.now)) }
+    ensures { result ≡ are_fields_of fields.now (members_of (map tree shapes.now)) }
 {
     if fields.len() != shapes.len() {
         return false;
@@ -181,7 +174,7 @@ fn are_fields(fields: &[Field], shapes: &[Shape]) -> bool
 }
 
 fn is_field(field: Field, shape: &Shape) -> bool
-    ensures { result ≡ is_field_of (field_seen field) (tree shape.now) }
+    ensures { result ≡ is_field_of field (tree shape.now) }
 {
     match field {
         Field::Number => is_number(Some(shape)),

@@ -32,10 +32,13 @@ pub mod StrideFree
 pub mod RulesKept
 pub mod Starts
 pub mod StartSize
+pub mod Ordered
 pub mod Twice
+pub mod Walking
 pub mod Reached
 pub mod Scanned
 pub mod Through
+pub mod Keys
 pub mod RowRules
 pub mod RowStart
 pub mod ArrayLemmas

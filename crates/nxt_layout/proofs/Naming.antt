@@ -1,5 +1,5 @@
 -- The rows that numbers name, number by number.
-use Rattle.std.proofs.Common.{◌≡◌, ℕ, ◌+◌, ◌-◌, ◌<◌, true, false, ◌||◌, suc, List, [], ◌∷◌, ◌++◌, fold, flat_map, map, length, drop, length-append, set, get_or-set_same, get_or-set_other, eq-eqb, ne_eqb, inl, inr, Option, Some, None, if◌then◌else◌, refl, sym, ap, ◌∙◌, arith}
+use Rattle.std.proofs.Common.{◌≡◌, ℕ, ◌+◌, ◌<◌, true, false, ◌||◌, List, [], ◌∷◌, ◌++◌, fold, flat_map, map, length, drop, length-append, set, get_or-set_same, get_or-set_other, eq-eqb, ne_eqb, inl, inr, Option, Some, None, if◌then◌else◌, refl, sym, ap, ◌∙◌, arith}
 use Rattle.std.proofs.Math.Bool.{or-false, or_assoc}
 use Rattle.std.proofs.lemmas.List.Folds.{list_any-append}
 use Rattle.std.proofs.lemmas.List.Sums.{fold-append}
@@ -7,13 +7,12 @@ use Rattle.std.specs.Prelude.{slice_index, ◌==◌}
 use Rattle.std.specs.List.{list_any}
 use Rattle.std.proofs.lemmas.List.{drop_more}
 use Rattle.std.proofs.lemmas.Bool.{cases_eq}
-use Rattle.nxt_model.specs.Reading.{u16_in}
 use Rattle.nxt_layout.specs.declared.names.Names.{Names}
 use Rattle.nxt_layout.specs.declared.reach.OpenArray.{OpenArray}
-use Rattle.nxt_layout.specs.Rows.{Ground, row, elements_of, places_from, is_beyond}
+use Rattle.nxt_layout.specs.Rows.{Ground, row, elements_of, is_beyond}
 use Rattle.nxt_layout.proofs.Found.{length-places}
 use Rattle.nxt_layout.proofs.Totals.{bit, tally_is, tally-append}
-use Rattle.nxt_layout.specs.RowPasses.{opened, is_back, back_to, times, with_number, numbers_in, IsCounted, Takes}
+use Rattle.nxt_layout.specs.RowPasses.{opened, is_back, back_to, times, with_number, IsCounted, Takes}
 
 -- of all these numbers the rest is left to take
 pub record IsLeft (g : Ground) (all rest : List ℕ) (initial now : Names) : Type 0 where
@@ -42,17 +41,6 @@ left_less g all here rest initial now next h t =
 pub left_none : (g : Ground) (all : List ℕ) (initial now : Names) → IsLeft g all [] initial now → Takes g all initial now
 left_none g all initial now h =
     record { rows = h.rows; beyond = sym (or-false now.beyond) ∙ h.beyond; counted = h.counted; table = h.table }
-
--- ---- the numbers of a row
-
-pub number_first : (g : Ground) (place at stride n k : ℕ) → k < n → numbers_in g place (places_from at stride (n - k)) ≡ (u16_in g.memory.bytes (at + place) ∷ []) ++ numbers_in g place (places_from (at + stride) stride (n - (k + 1)))
-number_first g place at stride n k h =
-    let one : n - k ≡ suc (n - (k + 1)) = omega (arith, h) in
-    ap (λ m. numbers_in g place (places_from at stride m)) one
-
-pub numbers-append : (g : Ground) (place : ℕ) (xs ys : List ℕ) → numbers_in g place (xs ++ ys) ≡ numbers_in g place xs ++ numbers_in g place ys
-numbers-append g place [] ys = refl
-numbers-append g place (x ∷ xs) ys = ap (λ ns. u16_in g.memory.bytes (x + place) ∷ ns) (numbers-append g place xs ys)
 
 -- ---- open arrays
 

@@ -1,5 +1,5 @@
 -- The rows that are found through arrays, where each is kept at most twice, agree with those that are reached.
-use Rattle.std.proofs.Common.{◌≡◌, ℕ, ◌+◌, ◌≤◌, ◌&&◌, ◌||◌, not, ◌==◌, nat_lt, nat_le, List, [], ◌∷◌, ◌++◌, map, filter, flat_map, length, refl, sym, ap, ◌∙◌, subst, arith}
+use Rattle.std.proofs.Common.{◌≡◌, ℕ, ◌+◌, ◌≤◌, ◌&&◌, ◌||◌, not, ◌==◌, nat_lt, nat_le, List, [], ◌∷◌, ◌++◌, map, filter, flat_map, length, refl, sym, ap, ◌∙◌, subst}
 use Rattle.std.specs.List.{list_any}
 use Rattle.std.proofs.lemmas.List.Elements.{filter-append, filter_agree}
 use Rattle.nxt_types.specs.Shapes.{Shape, Void, Number, Array, Cluster, Mutex, Members, no_members, member}
@@ -116,7 +116,7 @@ IsExact g l = (few_rows g l.entry l.arrays ≡ reached_through g l) × (few_plac
 
 leaf_exact : (g : Ground) (l : Leaf) → NamesOnce g l → few_places g l.arrays ≡ element_places g l.arrays → few_rows g l.entry l.arrays ≡ reached_through g l
 leaf_exact g l once same =
-    ap (λ ps. rows_of g (numbers_at g l.entry ps)) same ∙ rows_exact g (numbers_of g l) (λ r. omega (arith, once r))
+    ap (λ ps. rows_of g (numbers_at g l.entry ps)) same ∙ rows_exact g (numbers_of g l) once
 
 mutual
   pub shape_exact : (g : Ground) (s : Shape) (i : ℕ) (arrays : List ℕ) → few_places g arrays ≡ element_places g arrays → Each (NamesOnce g) (arrays_among (leaves_in g.memory.entries s i arrays)) → Each (IsExact g) (arrays_among (leaves_in g.memory.entries s i arrays))

@@ -5,7 +5,7 @@ use Rattle.std.proofs.lemmas.List.Sums.{sum_by-cons}
 use Rattle.nxt_types.specs.Shapes.{Members}
 use Rattle.nxt_rxe.specs.declared.parts.Parts.{Parts}
 use Rattle.nxt_model.specs.Values.{group_of}
-use Rattle.nxt_model.specs.Footprint.{round4}
+use Rattle.nxt_types.specs.Pool.{round4}
 use Rattle.nxt_model.specs.Reading.{Memory, row_count}
 use Rattle.nxt_layout.specs.declared.fault.LayoutFault.TheVariants.{Place}
 use Rattle.nxt_layout.specs.Leaves.{Leaf, AreShapes, leaves, leaf_of, extent}

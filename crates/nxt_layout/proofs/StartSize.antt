@@ -8,7 +8,8 @@ use Rattle.nxt_types.specs.Shapes.{Shape, Void, Number, Array, Cluster, Mutex, M
 use Rattle.nxt_types.specs.Names.{size}
 use Rattle.nxt_rxe.specs.declared.parts.Parts.{Parts}
 use Rattle.nxt_model.specs.Values.{Value, values, group_of, elements, lists_in, lists_among as lists_within}
-use Rattle.nxt_model.specs.Footprint.{pool_size, round4, list_bytes, member_bytes}
+use Rattle.nxt_model.specs.Footprint.{list_bytes, member_bytes}
+use Rattle.nxt_types.specs.Pool.{pool_size, round4}
 use Rattle.nxt_model.specs.Reading.{Memory, HeldList, EachReads, RowReads, Reads, MembersRead, ReadsAs, row_count, u16_in, leaf_place}
 use Rattle.nxt_layout.specs.declared.fault.LayoutFault.TheVariants.{Place, PoolPassed}
 use Rattle.nxt_layout.specs.Leaves.{Leaf, AreShapes, leaves, leaf_of, extent}

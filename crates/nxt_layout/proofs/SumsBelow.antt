@@ -24,7 +24,7 @@ below_twice v (suc n) h = omega (arith, h n, below_twice v n h)
 
 -- ---- one number
 
-abbrev only : (ℕ → ℕ) → ℕ → ℕ → ℕ
+abbrev pub only : (ℕ → ℕ) → ℕ → ℕ → ℕ
 only w x r = cond (x == r) (w r) 0
 
 below_other : (x n : ℕ) → x < suc n → (x ≡ n → ⊥) → x < n
@@ -56,7 +56,7 @@ one_below w x (suc n) h =
 
 -- ---- numbers below n, one by one
 
-total_below : (w : ℕ → ℕ) (n : ℕ) (xs : List ℕ) → Each (λ x. x < n) xs → total w xs ≡ sum_below (λ r. total (λ x. only w x r) xs) n
+pub total_below : (w : ℕ → ℕ) (n : ℕ) (xs : List ℕ) → Each (λ x. x < n) xs → total w xs ≡ sum_below (λ r. total (λ x. only w x r) xs) n
 total_below w n [] less = sym (below_none (λ r. 0) n (λ r h. refl))
 total_below w n (x ∷ xs) less =
     omega (

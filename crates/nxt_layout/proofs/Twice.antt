@@ -4,9 +4,10 @@ use Rattle.std.specs.List.{list_all, list_any}
 use Rattle.std.proofs.lemmas.Bool.{and_parts, cases_lt, eqb-true, le-ltb}
 use Rattle.nxt_model.specs.Reading.{row_count}
 use Rattle.nxt_layout.specs.Rows.{Ground, names_row}
-use Rattle.nxt_layout.specs.RowPasses.{times, keep_twice, with_number, rows_of}
+use Rattle.nxt_layout.specs.RowPasses.{times, keep_twice, with_number, kept_of, rows_of}
 use Rattle.nxt_layout.proofs.Each.{Each, each_join, each_then}
 use Rattle.nxt_layout.proofs.Totals.{total, total-map, total_flat, bit, tally, is_it, tally_is, tally-append, any_is}
+use Rattle.nxt_layout.proofs.Ordered.{ordered_tally, ordered_below, ordered_same}
 use Rattle.nxt_layout.proofs.SumsBelow.{below_twice, counted_below}
 
 -- ---- counts, cut at two
@@ -43,7 +44,7 @@ kept_tally : (p : ℕ → Bool) (x : ℕ) (xs : List ℕ) (b : Bool) → tally p
 kept_tally p x xs true = refl
 kept_tally p x xs false = omega arith
 
-tally-filter : (p q : ℕ → Bool) (xs : List ℕ) → tally p (filter q xs) ≡ tally (λ x. q x && p x) xs
+pub tally-filter : (p q : ℕ → Bool) (xs : List ℕ) → tally p (filter q xs) ≡ tally (λ x. q x && p x) xs
 tally-filter p q [] = refl
 tally-filter p q (x ∷ xs) =
     kept_tally p x (filter q xs) (q x) ∙ ap (λ n. bit (q x && p x) + n) (tally-filter p q xs)
@@ -128,7 +129,7 @@ it_counts : (p : ℕ → Bool) (r x : ℕ) (b : Bool) → (x == r) ≡ b → p r
 it_counts p r x true t e = let one : bit (p x) ≡ 1 = ap (λ k. bit (p k)) (eqb-true x r t) ∙ ap bit e in omega (arith, one)
 it_counts p r x false t e = omega arith
 
-counts_it : (p : ℕ → Bool) (r : ℕ) (xs : List ℕ) → p r ≡ true → tally (is_it r) xs ≤ tally p xs
+pub counts_it : (p : ℕ → Bool) (r : ℕ) (xs : List ℕ) → p r ≡ true → tally (is_it r) xs ≤ tally p xs
 counts_it p r [] e = omega arith
 counts_it p r (x ∷ xs) e = omega (arith, it_counts p r x (x == r) refl e, counts_it p r xs e)
 
@@ -136,7 +137,7 @@ third_time : (p : ℕ → Bool) (rows : List ℕ) (r : ℕ) (b : Bool) → p r �
 third_time p rows r true e h = omega (arith, h, counts_it p r rows e, tally-append p rows (r ∷ []))
 third_time p rows r false e h = omega (arith, h, ap bit e, tally-append p rows (r ∷ []))
 
-kept_alike : (rows : List ℕ) (r : ℕ) (b : Bool) → nat_lt (times r rows) 2 ≡ b → AreAlike (if b then rows ++ r ∷ [] else rows) (rows ++ r ∷ [])
+pub kept_alike : (rows : List ℕ) (r : ℕ) (b : Bool) → nat_lt (times r rows) 2 ≡ b → AreAlike (if b then rows ++ r ∷ [] else rows) (rows ++ r ∷ [])
 kept_alike rows r true e = λ p. refl
 kept_alike rows r false e =
     λ p. third_time p rows r (p r) refl (subst (λ n. 2 ≤ n) (tally_is (is_it r) rows) (ltb-false (times r rows) 2 e))
@@ -167,8 +168,8 @@ all_alike g (n ∷ ns) rows =
     (all_alike g ns (with_number g rows n))
     (one_alike rows n (filter (names_row g) ns) (names_row g n))
 
-pub rows_alike : (g : Ground) (ns : List ℕ) → AreAlike (rows_of g ns) (filter (names_row g) ns)
-rows_alike g ns = all_alike g ns []
+pub kept_rows_alike : (g : Ground) (ns : List ℕ) → AreAlike (kept_of g ns) (filter (names_row g) ns)
+kept_rows_alike g ns = all_alike g ns []
 
 -- ---- as many as the table has, twice
 
@@ -190,8 +191,8 @@ all_few : (g : Ground) (ns rows : List ℕ) → ((r : ℕ) → tally (is_it r) r
 all_few g [] rows h r = h r
 all_few g (n ∷ ns) rows h r = all_few g ns (with_number g rows n) (one_few rows n (names_row g n) h) r
 
-pub twice_at_most : (g : Ground) (ns : List ℕ) (r : ℕ) → tally (is_it r) (rows_of g ns) ≤ 2
-twice_at_most g ns r = all_few g ns [] (λ r. omega arith) r
+kept_at_most : (g : Ground) (ns : List ℕ) (r : ℕ) → tally (is_it r) (kept_of g ns) ≤ 2
+kept_at_most g ns r = all_few g ns [] (λ r. omega arith) r
 
 kept_named : (g : Ground) (rows : List ℕ) (n : ℕ) (b : Bool) → names_row g n ≡ true → Each (λ r. names_row g r ≡ true) rows → Each (λ r. names_row g r ≡ true) (if b then rows ++ n ∷ [] else rows)
 kept_named g rows n true e h = each_join (λ r. names_row g r ≡ true) rows (n ∷ []) h (e, tt)
@@ -205,17 +206,28 @@ all_named : (g : Ground) (ns rows : List ℕ) → Each (λ r. names_row g r ≡ 
 all_named g [] rows h = h
 all_named g (n ∷ ns) rows h = all_named g ns (with_number g rows n) (one_named g rows n (names_row g n) refl h)
 
-pub rows_named : (g : Ground) (ns : List ℕ) → Each (λ r. names_row g r ≡ true) (rows_of g ns)
-rows_named g ns = all_named g ns [] tt
-
-pub rows_below : (g : Ground) (ns : List ℕ) → Each (λ r. r < row_count g.memory) (rows_of g ns)
-rows_below g ns =
+kept_below : (g : Ground) (ns : List ℕ) → Each (λ r. r < row_count g.memory) (kept_of g ns)
+kept_below g ns =
     each_then
     (λ r. names_row g r ≡ true)
     (λ r. r < row_count g.memory)
     (λ r h. ltb-true r (row_count g.memory) (and_parts (nat_lt 0 r) (nat_lt r (row_count g.memory)) h).1)
-    (rows_of g ns)
-    (rows_named g ns)
+    (kept_of g ns)
+    (all_named g ns [] tt)
+
+-- ---- in the order of number
+
+pub rows_below : (g : Ground) (ns : List ℕ) → Each (λ r. r < row_count g.memory) (rows_of g ns)
+rows_below g ns = ordered_below (row_count g.memory) (kept_of g ns) (kept_below g ns)
+
+same_rows : (g : Ground) (ns : List ℕ) (p : ℕ → Bool) → tally p (rows_of g ns) ≡ tally p (kept_of g ns)
+same_rows g ns p = ordered_tally (row_count g.memory) (kept_of g ns) (kept_below g ns) p
+
+pub rows_alike : (g : Ground) (ns : List ℕ) → AreAlike (rows_of g ns) (filter (names_row g) ns)
+rows_alike g ns = λ p. ap cap (same_rows g ns p) ∙ kept_rows_alike g ns p
+
+pub twice_at_most : (g : Ground) (ns : List ℕ) (r : ℕ) → tally (is_it r) (rows_of g ns) ≤ 2
+twice_at_most g ns r = omega (arith, same_rows g ns (is_it r), kept_at_most g ns r)
 
 pub rows_few : (g : Ground) (ns : List ℕ) → length (rows_of g ns) ≤ 2 * row_count g.memory
 rows_few g ns =
@@ -241,5 +253,7 @@ all_exact g (n ∷ ns) rows h =
     one_exact rows n (filter (names_row g) ns) (names_row g n) h in
     all_exact g ns (with_number g rows n) (λ r. subst (λ xs. tally (is_it r) xs ≤ 2) (sym same) (h r)) ∙ same
 
-pub rows_exact : (g : Ground) (ns : List ℕ) → ((r : ℕ) → tally (is_it r) (filter (names_row g) ns) ≤ 2) → rows_of g ns ≡ filter (names_row g) ns
-rows_exact g ns h = all_exact g ns [] h
+pub rows_exact : (g : Ground) (ns : List ℕ) → ((r : ℕ) → tally (is_it r) (filter (names_row g) ns) ≤ 1) → rows_of g ns ≡ filter (names_row g) ns
+rows_exact g ns h =
+    let same : kept_of g ns ≡ filter (names_row g) ns = all_exact g ns [] (λ r. omega (arith, h r)) in
+    ordered_same (row_count g.memory) (kept_of g ns) (λ r. subst (λ xs. tally (is_it r) xs ≤ 1) (sym same) (h r)) ∙ same

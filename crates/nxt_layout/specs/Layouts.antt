@@ -5,7 +5,7 @@ use Rattle.nxt_types.specs.declared.shape.TocEntry.{TocEntry}
 use Rattle.nxt_types.specs.Shapes.{Members, outline}
 use Rattle.nxt_rxe.specs.declared.parts.Parts.{Parts}
 use Rattle.nxt_model.specs.Values.{Value}
-use Rattle.nxt_model.specs.Footprint.{round4, pool_size}
+use Rattle.nxt_types.specs.Pool.{round4, pool_size}
 use Rattle.nxt_layout.specs.declared.fault.LayoutFault.{LayoutFault}
 use Rattle.nxt_layout.specs.declared.fault.LayoutFault.TheVariants.{TypeCode, TypeOpen, Depth, MutexInside, Place, Overlap, DefaultsShort, RowZero, RowIndex, RowShared, Stride, RowPlace, RowOverlap, PoolPassed, NoMemory}
 use Rattle.nxt_layout.specs.declared.leaves.Leaf.{Leaf}

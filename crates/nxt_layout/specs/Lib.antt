@@ -7,6 +7,7 @@ pub mod Owners
 pub mod Shaping
 pub mod Rows
 pub mod RowPasses
+pub mod Known
 pub mod Start
 pub mod LayoutRules
 pub mod Layouts

@@ -1,7 +1,8 @@
 -- What the passes over a file's rows compute.
-use Rattle.std.specs.Prelude.{ℕ, zero, suc, ◌+◌, ◌-◌, ◌*◌, ◌<◌, ◌≤◌, ◌≡◌, min, max, Bool, true, false, ◌&&◌, ◌||◌, not, ◌==◌, nat_lt, nat_le, List, [], ◌∷◌, ◌++◌, map, filter, find, fold, flat_map, length, count_by, slice_index, sum_by, option_map, Option, Some, None, if◌then◌else◌}
+use Rattle.std.specs.Prelude.{ℕ, zero, suc, ◌+◌, ◌-◌, ◌*◌, ◌<◌, ◌≤◌, ◌≡◌, min, max, Bool, true, false, ◌&&◌, ◌||◌, not, ◌==◌, nat_lt, nat_le, List, [], ◌∷◌, ◌++◌, map, filter, find, fold, flat_map, length, replicate, count_by, slice_index, sum_by, option_map, Option, Some, None, if◌then◌else◌}
 use Rattle.std.specs.List.{list_any}
-use Rattle.nxt_model.specs.Footprint.{round4}
+use Rattle.nxt_types.specs.Pool.{round4}
+use Rattle.std.specs.Rc.{rc_slice_items}
 use Rattle.nxt_model.specs.Reading.{row_count, u16_in}
 use Rattle.nxt_layout.specs.declared.item.Item.{Item}
 use Rattle.nxt_layout.specs.declared.item.Item.TheVariants.{Array}
@@ -50,9 +51,26 @@ keep_twice rows r = if nat_lt (times r rows) 2 then rows ++ r ∷ [] else rows
 abbrev pub with_number : Ground → List ℕ → ℕ → List ℕ
 with_number g rows n = if names_row g n then keep_twice rows n else rows
 
--- the rows that numbers name, each at most twice
+-- the rows that numbers name in the order of naming, each at most twice
+abbrev pub kept_of : Ground → List ℕ → List ℕ
+kept_of g numbers = fold (with_number g) [] numbers
+
+-- so many of each row below n
+abbrev pub listed : (ℕ → ℕ) → ℕ → List ℕ
+listed w zero = []
+listed w (suc n) = listed w n ++ replicate (w n) n
+
+abbrev pub any_below : (ℕ → Bool) → ℕ → Bool
+any_below test zero = false
+any_below test (suc n) = any_below test n || test n
+
+-- in the order of number, where a row below n is there twice
+abbrev pub ordered : ℕ → List ℕ → List ℕ
+ordered n rows = if any_below (λ r. nat_lt 1 (times r rows)) n then listed (λ r. times r rows) n else rows
+
+-- the rows that numbers name, each at most twice, in the order of naming where none is named twice
 abbrev pub rows_of : Ground → List ℕ → List ℕ
-rows_of g numbers = fold (with_number g) [] numbers
+rows_of g numbers = ordered (row_count g.memory) (kept_of g numbers)
 
 -- the numbers at this place in elements
 abbrev pub numbers_in : Ground → ℕ → List ℕ → List ℕ
@@ -238,10 +256,10 @@ abbrev pub ground_of : Dataspace → Ground
 ground_of d = bare_ground d.bytes.items d.table d.static_size
 
 abbrev pub opened : OpenArray → Opened
-opened o = record { entry = o.entry; read = o.read.items }
+opened o = record { entry = o.entry; read = rc_slice_items o.read }
 
 abbrev pub through : ArrayRows → Through
-through a = record { entry = a.entry; bytes = a.bytes; rows = a.rows.items; lists = a.lists; beyond = a.beyond }
+through a = record { entry = a.entry; bytes = a.bytes; rows = rc_slice_items a.rows; lists = a.lists; beyond = a.beyond }
 
 -- the counts tell how often each row of the table is among them
 pub record IsCounted (n : Names) : Type 0 where

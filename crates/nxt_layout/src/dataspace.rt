@@ -5,6 +5,8 @@ ghost use Rattle.nxt_model.specs.Reading.{u16_in, row_count};
 ghost use Rattle.nxt_layout.specs.Rows.{row as dope_row, row_end, has_elements as row_has_elements, is_placed as row_is_placed};
 ghost use Rattle.nxt_layout.specs.RowPasses.{ground_of, row_bytes as rounded_bytes};
 
+use nxt_types::pool::{ROW_BYTES, round4};
+
 /// The bytes of a file's variables at the start, where its table of rows stands in them, and where the static bytes end
 /// (Executable File Specification, "Dope Vectors").
 #[derive(Drop)]
@@ -13,9 +15,6 @@ pub struct Dataspace {
     pub table: u16,
     pub static_size: u16,
 }
-
-/// The bytes of a row of the table.
-const ROW_BYTES: u32 = 10;
 
 impl Dataspace {
     /// The number of 16 bits at a place, the low byte first. A byte past the end counts as 0.
@@ -39,7 +38,7 @@ impl Dataspace {
         ensures place { result ≡ (ground_of self.now).memory.table + 10 * row }
         ensures bound { result < 2 ^ 20 }
     {
-        u32::from(self.table) + ROW_BYTES * u32::from(row)
+        u32::from(self.table) + ROW_BYTES as u32 * u32::from(row)
     }
 
     /// Where the row's elements begin.
@@ -105,6 +104,6 @@ impl Dataspace {
         ensures value { result ≡ rounded_bytes (ground_of self.now) row }
         ensures bound { result < 2 ^ 33 }
     {
-        (u64::from(self.bytes_of(row)) + 3) / 4 * 4
+        round4(u64::from(self.bytes_of(row)))
     }
 }

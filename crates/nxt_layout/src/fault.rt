@@ -4,6 +4,7 @@ ghost use Rattle.std.specs.Prelude.{◌≡◌};
 ghost use Rattle.nxt_layout.specs.declared.fault.LayoutFault.TheVariants.{NoMemory as no_memory};
 
 use nxt_types::NoMemory;
+use nxt_types::refusal::BrokenRule;
 use std::alloc::{AllocError, AllocFailed};
 
 /// The first broken rule of a file's table and data, at its least place. The numbers are what a refusal shows beside the
@@ -64,5 +65,35 @@ impl<T: Drop> From<AllocFailed<T>> for LayoutFault {
 
     fn from(_: AllocFailed<T>) -> Self {
         LayoutFault::NoMemory
+    }
+}
+
+impl LayoutFault {
+    ghost use Rattle.std.specs.Prelude.{◌≡◌, IfOk, OnErr};
+    ghost use Rattle.nxt_types.specs.BrokenRules.{rule_and_place};
+    ghost use Rattle.nxt_layout.specs.LayoutRules.{rank};
+
+    /// The broken rule with its place; an `Err` where there was no memory.
+    pub fn broken_rule(self) -> Result<BrokenRule, NoMemory>
+        ensures rule { IfOk result (λ b. rule_and_place b ≡ rank self) }
+        ensures memory { OnErr result (self ≡ LayoutFault.NoMemory) }
+    {
+        match self {
+            LayoutFault::TypeCode(entry) => Ok(BrokenRule::at(5, entry)),
+            LayoutFault::TypeOpen(entry) => Ok(BrokenRule::at(6, entry)),
+            LayoutFault::Depth(entry) => Ok(BrokenRule::at(7, entry)),
+            LayoutFault::MutexInside(entry) => Ok(BrokenRule::at(8, entry)),
+            LayoutFault::Place(entry) => Ok(BrokenRule::at(9, entry)),
+            LayoutFault::Overlap(first, second) => Ok(BrokenRule::pair(10, first, second)),
+            LayoutFault::DefaultsShort(entry) => Ok(BrokenRule::at(11, entry)),
+            LayoutFault::RowZero => Ok(BrokenRule::whole(12)),
+            LayoutFault::RowIndex(entry) => Ok(BrokenRule::at(13, entry)),
+            LayoutFault::RowShared(row) => Ok(BrokenRule::at(14, row)),
+            LayoutFault::Stride(row) => Ok(BrokenRule::at(15, row)),
+            LayoutFault::RowPlace(row) => Ok(BrokenRule::at(16, row)),
+            LayoutFault::RowOverlap(first, second) => Ok(BrokenRule::pair(17, first, second)),
+            LayoutFault::PoolPassed(footprint) => Ok(BrokenRule::passed(18, footprint)),
+            LayoutFault::NoMemory => Err(NoMemory),
+        }
     }
 }

@@ -2,8 +2,8 @@
 
 ghost use Rattle.std.specs.Prelude.{◌≡◌, ◌<◌, ◌≤◌, ◌^◌, length, map, slice_index, All, IfOk, IfErr, OnOk, None, Some, IsTrue, ◌⊎◌};
 ghost use Rattle.nxt_types.specs.Shapes.{Members};
+ghost use Rattle.nxt_types.specs.Tables.{trees_of, outside_among, variables_of};
 ghost use Rattle.nxt_types.specs.Refusals.{IsRefusal};
-ghost use Rattle.nxt_model.specs.Footprint.{round4 as rounded};
 ghost use Rattle.nxt_rxe.specs.Files.{HasCounts};
 ghost use Rattle.nxt_layout.specs.Leaves.{AreShapes};
 ghost use Rattle.nxt_layout.specs.Start.{all_with_strides};
@@ -25,16 +25,13 @@ use crate::rows::{
 };
 use crate::shapes::outside_shapes;
 use crate::table::{open_variable, unknown_code};
-use nxt_rxe::parts::Parts;
+use nxt_rxe::parts::{CodeSections, Parts};
 use nxt_types::NoMemory;
-use nxt_types::lists::Entries;
-use nxt_types::shape::TocEntry;
+use nxt_types::pool::{POOL_BYTES, ROW_BYTES, round4};
+use nxt_types::shape::{Shape, TocEntry};
 use nxt_types::toc::Toc;
 use std::alloc::Global;
 use std::marker::Model;
-
-/// The bytes of the pool.
-const POOL_BYTES: u64 = 32_768;
 
 /// The table of an accepted file with its shapes, and the dataspace with which its program starts.
 #[derive(Drop)]
@@ -60,31 +57,47 @@ impl Model for Layout {
     ghost view = { λ l. record { entries = l.toc.entries; shapes = l.toc.shapes; dataspace = l.bytes.items; static_size = l.static_size; dope_at = l.dope_at; rows = l.file_rows; footprint = l.footprint } };
 }
 
-/// The layout of a file's variables, or the first broken rule of its table and data at its least place
-/// (Executable File Specification, "Dataspace Table of Contents", "Default Values", "Dope Vectors").
-pub fn check_layout(alloc: Global, parts: &Parts) -> Result<Layout, LayoutFault>
-    ensures found { HasCounts parts.now → IfOk result (IsLayout parts.now) }
-    ensures refused { HasCounts parts.now → IfErr result (λ fault. (fault ≡ no_memory) ⊎ IsRefusal (Broken parts.now) rank fault) }
+/// The layout of a file's variables, with its clumps and its code, or the first broken rule of its table and data at its
+/// least place (Executable File Specification, "Dataspace Table of Contents", "Default Values", "Dope Vectors"). Of parts
+/// that no file spells nothing is said, and where they aren't as long as their header tells the answer is `TypeOpen(0)`.
+pub fn check_layout(alloc: Global, parts: Parts) -> Result<(Layout, CodeSections), LayoutFault>
+    ensures found { HasCounts parts → IfOk result (λ found. IsLayout parts found.0) }
+    ensures rest { IfOk result (λ found. found.1 ≡ record { clumps = parts.clumps; dependents = parts.dependents; code = parts.code }) }
+    ensures refused { HasCounts parts → IfErr result (λ fault. (fault ≡ no_memory) ⊎ IsRefusal (Broken parts) rank fault) }
 {
-    if !has_counts(parts) {
+    if !has_counts(&parts) {
         return Err(LayoutFault::TypeOpen(0));
     }
-    let placed = check_table(alloc, parts)?;
-    let leaves = check_leaves(alloc, parts, placed.as_slice())?;
-    let space = dataspace_of(alloc, parts, leaves.as_slice())?;
-    let arrays = check_arrays(alloc, parts, &space, leaves.as_slice())?;
-    let footprint = check_pool(parts, &space, &arrays)?;
+    let placed = check_table(alloc, &parts)?;
+    let leaves = check_leaves(alloc, &parts, placed.as_slice())?;
+    let space = dataspace_of(alloc, &parts, leaves.as_slice())?;
+    let arrays = check_arrays(alloc, &parts, &space, leaves.as_slice())?;
+    let footprint = check_pool(&parts, &space, &arrays)?;
     let strides = strides_of(alloc, &space, arrays.found.as_slice(), parts.toc.len())?;
-    let toc = toc_of(alloc, parts, placed.as_slice(), strides.as_slice())?;
-    let file_rows = file_rows(parts, &space);
-    Ok(Layout {
+    let shapes = shapes_of(alloc, &parts, placed.as_slice(), strides.as_slice())?;
+    let file_rows = file_rows(&parts, &space);
+    let Parts {
+        header,
         toc,
+        defaults: _defaults,
+        clumps,
+        dependents,
+        code,
+    } = parts;
+    let layout = Layout {
+        toc: Toc::new(toc, shapes),
         bytes: space.bytes,
-        static_size: parts.header.static_size,
-        dope_at: parts.header.dope_at,
+        static_size: header.static_size,
+        dope_at: header.dope_at,
         file_rows,
         footprint,
-    })
+    };
+    let rest = CodeSections {
+        clumps,
+        dependents,
+        code,
+    };
+    Ok((layout, rest))
 }
 
 // Whether the table and the default data are as long as the head tells.
@@ -102,6 +115,13 @@ impl Layout {
         ensures { result.now ≡ record { entries = self.now.entries; shapes = self.now.shapes } }
     {
         &self.toc
+    }
+
+    /// The dataspace table alone.
+    pub fn into_toc(self) -> Toc
+        ensures { result ≡ record { entries = self.entries; shapes = self.shapes } }
+    {
+        self.toc
     }
 
     /// The bytes of the pool that the start needs.
@@ -216,18 +236,20 @@ fn dynamic_defaults(parts: &Parts) -> &[u8]
     &defaults[start..end]
 }
 
-// The table with the shapes of its variables, by the entries' strides.
-fn toc_of(alloc: Global, parts: &Parts, placed: &[Placed], strides: &[u32]) -> Result<Toc, NoMemory>
-    requires count { length parts.now.toc < 2 ^ 16 }
+// The shapes of a table's variables, by the entries' strides.
+fn shapes_of(
+    alloc: Global,
+    parts: &Parts,
+    placed: &[Placed],
+    strides: &[u32],
+) -> Result<Vec<Option<Shape>>, NoMemory>
     requires placed { placed.now ≡ entries_placed parts.now.toc }
     requires strides { length strides.now ≡ length placed.now }
     requires right { table_fault parts.now ≡ None }
-    ensures { IfOk result (λ toc. (ss : Members) → AreShapes parts.now.toc ss → toc ≡ record { entries = parts.now.toc; shapes = all_with_strides (slice_index strides.now) 0 ss }) }
+    ensures outside { IfOk result (λ shapes. trees_of shapes.items ≡ outside_among (variables_of shapes.items)) }
+    ensures shapes { IfOk result (λ shapes. (ss : Members) → AreShapes parts.now.toc ss → variables_of shapes.items ≡ all_with_strides (slice_index strides.now) 0 ss) }
 {
-    let mut entries = Entries::new(alloc);
-    entries.append(parts.toc.as_slice())?;
-    let shapes = outside_shapes(alloc, placed, strides)?;
-    Ok(Toc::new(entries, shapes))
+    outside_shapes(alloc, placed, strides)
 }
 
 /// What is found through each array of a table, and how often each row of the file's table is named.
@@ -278,7 +300,7 @@ fn check_pool(parts: &Parts, space: &Dataspace, arrays: &Arrays) -> Result<u32, 
     let lists = lists_of(arrays.found.as_slice());
     let bytes = full_bytes(space, arrays.marks.as_slice());
     let size = round4(u64::from(parts.header.static_size))
-        + round4(10 * rows.max(lists + 1))
+        + round4(ROW_BYTES * rows.max(lists + 1))
         + bytes;
     if size > POOL_BYTES {
         return Err(LayoutFault::PoolPassed(size));
@@ -301,12 +323,4 @@ fn spells_array(entries: &[TocEntry]) -> bool
     ensures { result ≡ has_array_entry entries.now }
 {
     entries.iter().any(|entry| entry.code == 7)
-}
-
-// The least multiple of 4 that is at least n.
-fn round4(n: u64) -> u64
-    requires { n < 2 ^ 63 }
-    ensures { result ≡ rounded n }
-{
-    (n + 3) / 4 * 4
 }

@@ -6,10 +6,12 @@ mod dataspace;
 mod enclosing;
 pub mod fault;
 mod item;
+mod known;
 pub mod layout;
 mod leaves;
 mod names;
 mod overlap;
+mod places;
 mod reach;
 mod rows;
 mod shapes;
@@ -19,6 +21,3 @@ mod table;
 
 pub use fault::LayoutFault;
 pub use layout::{Layout, check_layout};
-
-#[cfg(test)]
-mod tests;

@@ -1,9 +1,9 @@
 // The rows that the numbers of an array's lists name.
 
-ghost use Rattle.std.specs.Prelude.{◌≡◌, ◌<◌, ◌≤◌, ◌^◌, ◌||◌, false, [], ◌∷◌, flat_map, map, length, IfOk, OnOk};
+ghost use Rattle.std.specs.Prelude.{◌≡◌, ◌<◌, ◌≤◌, ◌*◌, ◌^◌, ◌||◌, false, [], ◌∷◌, map, length, slice_index, nat_lt, All, IfOk, OnOk};
 ghost use Rattle.nxt_model.specs.Reading.{row_count};
-ghost use Rattle.nxt_layout.specs.Rows.{Ground, elements_of};
-ghost use Rattle.nxt_layout.specs.RowPasses.{ground_of, keep_twice, numbers_in, IsCounted, Takes};
+ghost use Rattle.nxt_layout.specs.Rows.{Ground};
+ghost use Rattle.nxt_layout.specs.RowPasses.{ground_of, keep_twice, numbers_in, listed, any_below, ordered as ordered_rows, IsCounted, Takes};
 
 use crate::dataspace::Dataspace;
 use nxt_types::NoMemory;
@@ -35,32 +35,16 @@ impl Names {
         })
     }
 
-    /// Takes the numbers at a place in the elements of these rows.
-    pub fn take_rows(&mut self, space: &Dataspace, rows: &[u16], place: u32) -> Result<(), NoMemory>
+    /// Takes the numbers at a place in the elements that stand at these places.
+    pub fn take_at(&mut self, space: &Dataspace, places: &[u32], place: u32) -> Result<(), NoMemory>
         requires place { place < 2 ^ 16 }
+        requires small { All (λ p. p ≤ 65535 * 65535) places.now }
         requires table { self.old.table_rows ≡ row_count (ground_of space.now).memory }
         requires counted { IsCounted self.old }
-        ensures { OnOk result (Takes (ground_of space.now) (numbers_in (ground_of space.now) place (flat_map (elements_of (ground_of space.now)) rows.now)) self.old self.new) }
+        ensures { OnOk result (Takes (ground_of space.now) (numbers_in (ground_of space.now) place places.now) self.old self.new) }
     {
-        for row in rows {
-            self.take_row(space, *row, place)?;
-        }
-        Ok(())
-    }
-
-    // Takes those in the elements of one row.
-    fn take_row(&mut self, space: &Dataspace, row: u16, place: u32) -> Result<(), NoMemory>
-        requires place { place < 2 ^ 16 }
-        requires table { self.old.table_rows ≡ row_count (ground_of space.now).memory }
-        requires counted { IsCounted self.old }
-        ensures { OnOk result (Takes (ground_of space.now) (numbers_in (ground_of space.now) place (elements_of (ground_of space.now) row)) self.old self.new) }
-    {
-        let stride = u32::from(space.stride(row));
-        let count = space.count(row);
-        let mut at = u32::from(space.place(row));
-        for _done in 0..count {
-            self.take(space.number_at(at + place))?;
-            at += stride;
+        for at in places {
+            self.take(space.number_at(*at + place))?;
         }
         Ok(())
     }
@@ -93,5 +77,41 @@ impl Names {
             self.times[at] = times + 1;
         }
         Ok(())
+    }
+
+    /// The rows: in the order of naming, or of number where one is named twice.
+    pub fn ordered(self, alloc: Global) -> Result<Vec<u16>, NoMemory>
+        requires { IsCounted self }
+        ensures { IfOk result (λ rows. rows.items ≡ ordered_rows self.table_rows self.rows.items) }
+    {
+        if self.has_twice() {
+            self.in_order(alloc)
+        } else {
+            Ok(self.rows)
+        }
+    }
+
+    fn has_twice(&self) -> bool
+        requires { IsCounted self.now }
+        ensures { result ≡ any_below (λ r. nat_lt 1 (slice_index self.now.times.items r)) self.now.table_rows }
+    {
+        for row in 0..self.table_rows {
+            if self.times[usize::from(row)] > 1 {
+                return true;
+            }
+        }
+        false
+    }
+
+    fn in_order(&self, alloc: Global) -> Result<Vec<u16>, NoMemory>
+        requires { IsCounted self.now }
+        ensures { IfOk result (λ rows. rows.items ≡ listed (slice_index self.now.times.items) self.now.table_rows) }
+    {
+        let mut rows: Vec<u16> = Vec::new(alloc);
+        for row in 0..self.table_rows {
+            let end = rows.len() + usize::from(self.times[usize::from(row)]);
+            rows.resize(end, row)?;
+        }
+        Ok(rows)
     }
 }

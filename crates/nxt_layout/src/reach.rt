@@ -1,18 +1,19 @@
 // The rows that a table's arrays name, array by array.
 
 ghost use Rattle.std.specs.Prelude.{◌≡◌, ℕ, ◌==◌, ◌<◌, ◌≤◌, ◌^◌, [], map, flat_map, length, slice_index, max, All, IfOk, OnOk, if◌then◌else◌};
-ghost use Rattle.nxt_layout.specs.Rows.{elements_of};
+ghost use Rattle.nxt_layout.specs.Rows.{Ground, elements_of};
 ghost use Rattle.nxt_layout.specs.LeafPasses.{leaf_end};
 ghost use Rattle.nxt_layout.specs.RowPasses.{ground_of, is_array_item, array_leaves, extent_in, back_to, is_back, places_in, through_by, through_from, open_by, opened, through, first_beyond as first_of_beyond};
+ghost use Rattle.nxt_layout.specs.Known.{IsOpen, IsKnown, IsFoundIn};
 
 use crate::dataspace::Dataspace;
 use crate::item::Item;
+use crate::known::{Found, Known, found_in, found_outside};
 use crate::leaves::{Leaf, width};
-use crate::names::Names;
-use crate::strides::read_rows;
 use nxt_types::NoMemory;
 use std::alloc::Global;
-use std::collections::VecDeque;
+use std::collections::{BTreeMap, VecDeque};
+use std::rc::RcSlice;
 
 /// What is found through an array's entry: the bytes of its element, the rows that its lists name, each at most twice, how
 /// many lists there are, and whether a number is past the table's rows.
@@ -20,7 +21,7 @@ use std::collections::VecDeque;
 pub struct ArrayRows {
     pub entry: u32,
     pub bytes: u32,
-    pub rows: Vec<u16>,
+    pub rows: RcSlice<u16>,
     pub lists: u64,
     pub beyond: bool,
 }
@@ -29,7 +30,7 @@ pub struct ArrayRows {
 #[derive(Drop)]
 pub struct OpenArray {
     entry: u32,
-    read: Vec<u16>,
+    read: RcSlice<u16>,
 }
 
 /// The bytes of an array's element by the array's entry: the greatest end of its leaves.
@@ -69,14 +70,25 @@ pub fn arrays_of(
     ensures count { IfOk result (λ arrays. length arrays.items ≤ length leaves.now) }
     ensures found { IfOk result (λ arrays. map through arrays.items ≡ through_from (ground_of space.now) (slice_index extents.now) [] (array_leaves leaves.now)) }
 {
+    let mut known: Known = BTreeMap::new(alloc);
     let mut stack: VecDeque<OpenArray> = VecDeque::new(alloc);
     let mut arrays: Vec<ArrayRows> = Vec::new(alloc);
     for leaf in leaves {
         if is_array(leaf) {
             close(&mut stack, leaf.array);
-            let array = rows_through(alloc, space, &stack, leaf, extents)?;
-            stack.push_front(opened_by(alloc, space, &array)?)?;
-            arrays.push(array)?;
+            let bytes = extent(extents, leaf.entry);
+            let found = rows_through(alloc, space, &mut known, &stack, leaf, bytes)?;
+            stack.push_front(OpenArray {
+                entry: leaf.entry,
+                read: found.read,
+            })?;
+            arrays.push(ArrayRows {
+                entry: leaf.entry,
+                bytes,
+                rows: found.rows,
+                lists: found.lists,
+                beyond: found.beyond,
+            })?;
         }
     }
     Ok(arrays)
@@ -90,8 +102,7 @@ fn is_array(leaf: &Leaf) -> bool
 
 // Ends the arrays up to this one, which is the next around a leaf.
 fn close(stack: &mut VecDeque<OpenArray>, array: Option<u16>)
-    requires { All (λ o. length o.read.items ≤ 2 ^ 17) stack.old.items }
-    ensures few { All (λ o. length o.read.items ≤ 2 ^ 17) stack.new.items }
+    ensures open { (g : Ground) → All (IsOpen g) stack.old.items → All (IsOpen g) stack.new.items }
     ensures rest { map opened stack.new.items ≡ back_to array (map opened stack.old.items) }
 {
     while !is_next(stack, array) {
@@ -109,50 +120,25 @@ fn is_next(stack: &VecDeque<OpenArray>, array: Option<u16>) -> bool
     }
 }
 
-fn opened_by(alloc: Global, space: &Dataspace, array: &ArrayRows) -> Result<OpenArray, NoMemory>
-    requires { length array.now.rows.items ≤ 2 ^ 17 }
-    ensures bound { IfOk result (λ o. length o.read.items ≤ 2 ^ 17) }
-    ensures opened { IfOk result (λ o. opened o ≡ open_by (ground_of space.now) (through array.now)) }
-{
-    Ok(OpenArray {
-        entry: array.entry,
-        read: read_rows(alloc, space, array.bytes, array.rows.as_slice())?,
-    })
-}
-
 // What is found through the array of this leaf, where these arrays are open.
 fn rows_through(
     alloc: Global,
     space: &Dataspace,
+    known: &mut Known,
     stack: &VecDeque<OpenArray>,
     leaf: &Leaf,
-    extents: &[u32],
-) -> Result<ArrayRows, NoMemory>
+    bytes: u32,
+) -> Result<Found, NoMemory>
     requires place { leaf.now.place < 2 ^ 16 }
-    requires few { All (λ o. length o.read.items ≤ 2 ^ 17) stack.now.items }
-    ensures few { IfOk result (λ array. length array.rows.items ≤ 2 ^ 17) }
-    ensures lists { IfOk result (λ array. array.lists ≤ 2 ^ 33) }
-    ensures found { IfOk result (λ array. through array ≡ through_by (ground_of space.now) (slice_index extents.now) leaf.now (places_in (ground_of space.now) (map opened stack.now.items))) }
+    requires open { All (IsOpen (ground_of space.now)) stack.now.items }
+    requires known { IsKnown (ground_of space.now) known.old }
+    ensures found { IfOk result (IsFoundIn (ground_of space.now) leaf.now.place bytes (places_in (ground_of space.now) (map opened stack.now.items))) }
+    ensures known { OnOk result (IsKnown (ground_of space.now) known.new) }
 {
-    let table_rows = space.rows();
-    let mut names = Names::new(alloc, table_rows)?;
-    let lists = match stack.front() {
-        None => {
-            names.take(space.number_at(leaf.place))?;
-            1
-        }
-        Some(array) => {
-            names.take_rows(space, array.read.as_slice(), leaf.place)?;
-            elements(space, array.read.as_slice())
-        }
-    };
-    Ok(ArrayRows {
-        entry: leaf.entry,
-        bytes: extent(extents, leaf.entry),
-        rows: names.rows,
-        lists,
-        beyond: names.beyond,
-    })
+    match stack.front() {
+        None => found_outside(alloc, space, leaf.place, bytes),
+        Some(array) => found_in(alloc, space, known, &array.read, leaf.place, bytes),
+    }
 }
 
 fn extent(extents: &[u32], entry: u32) -> u32
@@ -162,19 +148,6 @@ fn extent(extents: &[u32], entry: u32) -> u32
         Some(extent) => *extent,
         None => 0,
     }
-}
-
-// How many elements the rows have.
-fn elements(space: &Dataspace, rows: &[u16]) -> u64
-    requires { length rows.now ≤ 2 ^ 17 }
-    ensures count { result ≡ length (flat_map (elements_of (ground_of space.now)) rows.now) }
-    ensures bound { result ≤ 2 ^ 33 }
-{
-    let mut count: u64 = 0;
-    for row in rows {
-        count += u64::from(space.count(*row));
-    }
-    count
 }
 
 /// The entry of the first array with a number past the table's rows.

@@ -6,9 +6,9 @@ use Rattle.nxt_code.specs.Decoding.{IsDecoded}
 use Rattle.nxt_code.proofs.FitCode.{fit}
 use Rattle.nxt_code.proofs.code.check_code.Goals as goal
 
-pub returns-clause-fit : goal.returns-clause-fit
-returns-clause-fit c =
-    let words = c.args.words.now in
-    let accepted : IsAccepted (Broken (program c.args.toc.now.shapes c.args.clumps.now c.args.dependents.now words)) = search rules in
-    fit (program c.args.toc.now.shapes c.args.clumps.now c.args.dependents.now words) c.in_ok-code.code
-    (subst (λ ws. IsDecoded ws c.in_ok-code.code) c.as_slice.ensures c.in_ok-code.ensures) accepted
+pub returns-in-None-clause-fit : goal.returns-in-None-clause-fit
+returns-in-None-clause-fit c =
+    let words = c.args.words in
+    let accepted : IsAccepted (Broken (program c.args.toc.now.shapes c.args.clumps c.args.dependents words)) = search rules in
+    fit (program c.args.toc.now.shapes c.args.clumps c.args.dependents words) c.in_ok-decoded.decoded
+    (subst (λ ws. IsDecoded ws c.in_ok-decoded.decoded) c.as_slice.ensures c.in_ok-decoded.ensures) accepted

@@ -14,4 +14,4 @@ pub returns : goal.returns
 returns c =
     let l : c.args.k < length (statement_of c.args.instr.now c.args.words.now).args = omega arith in
     λ ss. c.number_of.ensures ss
-    ∙ sym (ap word_of (sort_there ss c.args.instr.now c.args.words.now c.requires c.args.k c.class_at-class.result c.word_at-word.result l c.class_at-class.ensures c.word_at-word.ensures))
+    ∙ sym (ap word_of (sort_there ss c.args.instr.now c.args.words.now c.requires c.args.k c.class-class.result c.operand-word.result l c.class-class.ensures c.operand-word.ensures))

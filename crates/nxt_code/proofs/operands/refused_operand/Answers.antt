@@ -6,13 +6,16 @@ use Rattle.nxt_code.specs.OperandsSeen.{operands}
 use Rattle.nxt_code.proofs.OperandLaws.{first_refused}
 use Rattle.nxt_code.proofs.operands.refused_operand.Goals as goal
 
-pub returns-then-not-operand_fits : goal.returns-then-not-operand_fits
-returns-then-not-operand_fits c =
+pub returns-then-not-branch-clause-found : goal.returns-then-not-branch-clause-found
+returns-then-not-branch-clause-found c =
     let l : c.loop-k.k < length (statement_of c.args.instr.now c.args.words.now).args = omega arith in
     first_refused (operand_fits c.args.clumps c.args.instr.now.op (operands c.args.toc.now.shapes c.args.instr.now c.args.words.now)) (length (statement_of c.args.instr.now c.args.words.now).args)
-    c.loop-k.k l (sym c.operand_fits.ensures ∙ c.if-not-operand_fits.true) c.loop-k.invariant
+    c.loop-k.k l (sym c.in_ok-operand_fits.ensures.fits ∙ c.if-not-branch.true) c.loop-k.invariant.fit
 
 pub loop-k-preserved : goal.loop-k-preserved
 loop-k-preserved c =
-    below_more (λ j. operand_fits c.args.clumps c.args.instr.now.op (operands c.args.toc.now.shapes c.args.instr.now c.args.words.now) j ≡ true) c.loop-k.k c.loop-k.invariant
-    (sym c.operand_fits.ensures ∙ c.if-not-operand_fits.false)
+    record {
+      known = c.in_ok-operand_fits.ensures.known;
+      fit = below_more (λ j. operand_fits c.args.clumps c.args.instr.now.op (operands c.args.toc.now.shapes c.args.instr.now c.args.words.now) j ≡ true) c.loop-k.k c.loop-k.invariant.fit
+          (sym c.in_ok-operand_fits.ensures.fits ∙ c.if-not-branch.false);
+    }

@@ -2,6 +2,7 @@
 use Rattle.std.proofs.Common.{◌≡◌, ℕ, ◌⊎◌, List, length, map, inr, refl, sym, ap, ◌∙◌, subst, arith}
 use Rattle.std.specs.Prelude.{slice_index}
 use Rattle.nxt_types.specs.Refusals.{IsRefusal}
+use Rattle.nxt_types.specs.Shapes.{Members}
 use Rattle.nxt_types.specs.Tables.{Table}
 use Rattle.nxt_rxe.specs.declared.parts.Parts.{Parts}
 use Rattle.nxt_model.specs.Values.{group_of}
@@ -18,40 +19,40 @@ use Rattle.nxt_layout.proofs.layout.check_layout.Goals as goal
 
 pub returns-in_err-placed-clause-refused : goal.returns-in_err-placed-clause-refused
 returns-in_err-placed-clause-refused c counts =
-    let p = c.args.parts.now in
+    let p = c.args.parts in
     let f = c.in_err-placed.field-0.0 in
     passed_on c.from_residual.result f (λ e. (e ≡ NoMemory) ⊎ IsRefusal (Broken p) rank e) c.from_residual.ensures.1
     (table_answer p f (c.if-not-has_counts.ensures.few refl).1 c.in_err-placed.ensures.refused)
 
 pub returns-in_err-leaves-clause-refused : goal.returns-in_err-leaves-clause-refused
 returns-in_err-leaves-clause-refused c counts =
-    let p = c.args.parts.now in
+    let p = c.args.parts in
     let f = c.in_err-leaves.field-0.0 in
     passed_on c.from_residual-in_err-leaves.result f (λ e. (e ≡ NoMemory) ⊎ IsRefusal (Broken p) rank e) c.from_residual-in_err-leaves.ensures.1
     (leaf_answer p f (c.if-not-has_counts.ensures.few refl).1 c.in_ok-placed.ensures.found.1 c.in_err-leaves.ensures.refused)
 
 pub returns-in_err-arrays-clause-refused : goal.returns-in_err-arrays-clause-refused
 returns-in_err-arrays-clause-refused c counts =
-    let p = c.args.parts.now in
+    let p = c.args.parts in
     let f = c.in_err-arrays.field-0.0 in
     passed_on c.from_residual-in_err-arrays.result f (λ e. (e ≡ NoMemory) ⊎ IsRefusal (Broken p) rank e) c.from_residual-in_err-arrays.ensures.1
     (row_answer p f (c.if-not-has_counts.ensures.few refl).1 c.in_ok-placed.ensures.found.1 c.in_ok-leaves.ensures.found.1 c.in_err-arrays.ensures.refused)
 
 pub returns-in_err-footprint-clause-refused : goal.returns-in_err-footprint-clause-refused
 returns-in_err-footprint-clause-refused c counts =
-    let p = c.args.parts.now in
+    let p = c.args.parts in
     let f = c.in_err-footprint.field-0.0 in
     passed_on c.from_residual-in_err-footprint.result f (λ e. (e ≡ NoMemory) ⊎ IsRefusal (Broken p) rank e) c.from_residual-in_err-footprint.ensures.1
     (inr (pool_refused p f (c.if-not-has_counts.ensures.few refl).1 c.in_ok-placed.ensures.found.1 c.in_ok-leaves.ensures.found.1 c.in_ok-arrays.ensures.kept c.in_err-footprint.ensures.refused))
 
 pub strides_of-requires : goal.strides_of-requires
 strides_of-requires c =
-    let p = c.args.parts.now in
+    let p = c.args.parts in
     subst (λ n. ArraysRise 0 n (map through c.as_slice-4.result.now)) (sym c.len.ensures)
     (subst (ArraysRise 0 (length p.toc)) (sym (ap (map through) c.as_slice-4.ensures.value ∙ c.in_ok-arrays.ensures.found)) (arrays_rise p))
 
-pub toc_of-requires-clause-strides : goal.toc_of-requires-clause-strides
-toc_of-requires-clause-strides c =
+pub shapes_of-requires-clause-strides : goal.shapes_of-requires-clause-strides
+shapes_of-requires-clause-strides c =
     omega (
       arith,
       ap length c.as_slice-6.ensures.value,
@@ -59,7 +60,7 @@ toc_of-requires-clause-strides c =
       c.len.ensures,
       ap length c.as_slice-5.ensures.value,
       ap length c.in_ok-placed.ensures.found.0,
-      count_entries c.args.parts.now.toc,
+      count_entries c.args.parts.toc,
     )
 
 -- that of the parts, with what the passes make
@@ -77,7 +78,7 @@ layout_with p t bytes rows size =
 
 pub returns-clause-found : goal.returns-clause-found
 returns-clause-found c counts =
-    let p = c.args.parts.now in
+    let p = c.args.parts in
     let enough = (c.if-not-has_counts.ensures.few refl).1 in
     let table = c.in_ok-placed.ensures.found.1 in
     let leaves = c.in_ok-leaves.ensures.found.1 in
@@ -92,8 +93,9 @@ returns-clause-found c counts =
     in
     let out = laid_out p h.shapes h.spelled enough leaves rows pool strides have in
     let toc : Table = record { entries = p.toc; shapes = all_with_strides (slice_index strides) 0 h.shapes } in
-    let spelled : c.in_ok-toc.toc ≡ toc =
-    c.in_ok-toc.ensures h.shapes h.spelled ∙ ap (λ ss. record { entries = p.toc; shapes = all_with_strides (slice_index ss) 0 h.shapes }) c.as_slice-6.ensures.value
+    let spelled : c.new.result ≡ toc =
+    c.new.ensures
+    ∙ ap (λ (q : Members). record { entries = p.toc; shapes = q }) (c.in_ok-shapes.ensures.shapes h.shapes h.spelled ∙ ap (λ ss. all_with_strides (slice_index ss) 0 h.shapes) c.as_slice-6.ensures.value)
     in
     let bytes : c.in_ok-space.space.bytes.items ≡ bytes_of_parts p = ap (λ (g : Ground). g.memory.bytes) c.in_ok-space.ensures in
     record {

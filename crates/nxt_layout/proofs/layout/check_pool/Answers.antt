@@ -2,7 +2,7 @@
 use Rattle.std.proofs.Common.{◌≡◌, ℕ, ◌+◌, ◌*◌, ◌<◌, ◌≤◌, max, map, nat_lt, List, Some, None, if◌then◌else◌, sym, ap, ◌∙◌, subst, lt-ltb}
 use Rattle.std.proofs.lemmas.Bool.{le-ltb}
 use Rattle.nxt_rxe.specs.declared.parts.Parts.{Parts}
-use Rattle.nxt_model.specs.Footprint.{round4, pool_size}
+use Rattle.nxt_types.specs.Pool.{round4, pool_size}
 use Rattle.nxt_layout.specs.declared.fault.LayoutFault.TheVariants.{PoolPassed}
 use Rattle.nxt_layout.specs.declared.reach.ArrayRows.{ArrayRows}
 use Rattle.nxt_layout.specs.Rows.{Ground, is_full_in}

@@ -1,5 +1,5 @@
 -- One more leaf, which may be an array.
-use Rattle.std.proofs.Common.{rules, ◌≡◌, ◌+◌, ◌≤◌, ◌^◌, true, false, ◌++◌, [], ◌∷◌, All, None, ap, ap₂, sym, ◌∙◌, subst, map, length, drop, get_or}
+use Rattle.std.proofs.Common.{rules, ◌≡◌, ◌+◌, ◌≤◌, ◌^◌, true, false, ◌++◌, [], ◌∷◌, All, None, refl, ap, ap₂, sym, ◌∙◌, subst, map, drop, get_or}
 use Rattle.std.specs.Prelude.{slice_index}
 use Rattle.std.proofs.lemmas.List.{map-append, drop_more}
 use Rattle.std.proofs.lemmas.List.Elements.{All-cons, All-push}
@@ -7,16 +7,17 @@ use Rattle.nxt_layout.specs.declared.item.Item.TheVariants.{Void}
 use Rattle.nxt_layout.specs.declared.leaves.Leaf.{Leaf}
 use Rattle.nxt_layout.specs.declared.reach.ArrayRows.{ArrayRows}
 use Rattle.nxt_layout.specs.declared.reach.OpenArray.{OpenArray}
-use Rattle.nxt_layout.specs.RowPasses.{ground_of, through, opened, is_array_item, array_leaves, through_from, through_by, places_in}
-use Rattle.nxt_layout.proofs.Through.{array_more, array_less}
-use Rattle.nxt_layout.proofs.reach.arrays_of.Goals.{then-is_array+in_ok-array+in_ok-opened_by+in_ok-push_front+in_ok-push, else-is_array}
+use Rattle.nxt_layout.specs.RowPasses.{ground_of, through, opened, back_to, is_array_item, array_leaves, through_from, places_in}
+use Rattle.nxt_layout.specs.Known.{IsOpen, IsFoundIn, IsKnown}
+use Rattle.nxt_layout.proofs.Through.{array_more, array_less, found_through, found_opened, found_open}
+use Rattle.nxt_layout.proofs.reach.arrays_of.Goals.{then-is_array+in_ok-found+in_ok-push_front+in_ok-push, else-is_array}
 use Rattle.nxt_layout.proofs.reach.arrays_of.Goals as goal
-
-abbrev IsShort : OpenArray → Type 0
-IsShort o = length o.read.items ≤ 2 ^ 17
 
 abbrev HasFew : ArrayRows → Type 0
 HasFew a = a.lists ≤ 2 ^ 33
+
+pub rows_through-requires-clause-open : goal.rows_through-requires-clause-open
+rows_through-requires-clause-open c = c.close.ensures.open (ground_of c.args.space.now) c.loop-leaf.invariant.open_still
 
 pub loop-leaf-preserved : goal.loop-leaf-preserved
 loop-leaf-preserved c =
@@ -32,27 +33,34 @@ loop-leaf-preserved c =
     let os = map opened c.loop-leaf.stack.items in
     let found = ap (λ ls. done ++ through_from g ext os (array_leaves ls)) (sym next) ∙ c.loop-leaf.invariant.found in
     elim c.if-is_array.branch [
-      | then-is_array+in_ok-array+in_ok-opened_by+in_ok-push_front+in_ok-push w ↦ (let it : is_array_item l.item ≡ true = search rules in
-          let array = w.in_ok-array.array in
-          let o = w.in_ok-opened_by.field-0 in
+      | then-is_array+in_ok-found+in_ok-push_front+in_ok-push w ↦ (let it : is_array_item l.item ≡ true = search rules in
+          let f = w.in_ok-found.found in
+          let bytes = w.extent-bytes.result in
+          let bases = places_in g (back_to l.array os) in
+          let f_is : IsFoundIn g l.place bytes bases f =
+          subst (λ ys. IsFoundIn g l.place bytes (places_in g ys) f) w.close.ensures.rest w.in_ok-found.ensures.found
+          in
+          let array : ArrayRows = record { entry = l.entry; bytes = bytes; rows = f.rows; lists = f.lists; beyond = f.beyond } in
+          let o : OpenArray = record { entry = l.entry; read = f.read } in
           let arrays : c.if-is_array.arrays.items ≡ c.loop-leaf.arrays.items ++ array ∷ [] = ap (λ v. v.items) w.arrays-is ∙ w.in_ok-push.ensures.items in
           let stack : c.if-is_array.stack.items ≡ o ∷ w.close.new.stack.items = ap (λ v. v.items) w.stack-is ∙ w.in_ok-push_front.ensures.items in
-          let here = w.in_ok-array.ensures.found ∙ ap (λ ys. through_by g ext l (places_in g ys)) w.close.ensures.rest in
           record {
             found =
                 ap₂ (λ xs ys. map through xs ++ through_from g ext (map opened ys) (array_leaves rest)) arrays stack
                 ∙ ap (λ ts. ts ++ through_from g ext (opened o ∷ map opened w.close.new.stack.items) (array_leaves rest)) (map-append through c.loop-leaf.arrays.items (array ∷ []))
                 ∙ ap (λ ys. (done ++ through array ∷ []) ++ through_from g ext (opened o ∷ ys) (array_leaves rest)) w.close.ensures.rest
-                ∙ array_more g ext done os l rest (through array) (opened o) it here w.in_ok-opened_by.ensures.opened
+                ∙ array_more g ext done os l rest (through array) (opened o) it (found_through g ext l bytes bases f f_is w.extent-bytes.ensures) (found_opened g l bytes bases f f_is)
                 ∙ found;
-            few = subst (All IsShort) (sym stack) (All-cons IsShort o w.close.new.stack.items w.in_ok-opened_by.ensures.bound w.close.ensures.few);
-            lists = subst (All HasFew) (sym arrays) (All-push HasFew c.loop-leaf.arrays.items array c.loop-leaf.invariant.lists w.in_ok-array.ensures.lists);
+            open_still = subst (All (IsOpen g)) (sym stack) (All-cons (IsOpen g) o w.close.new.stack.items (found_open g l.place bytes bases f o f_is refl) (w.close.ensures.open g c.loop-leaf.invariant.open_still));
+            lists = subst (All HasFew) (sym arrays) (All-push HasFew c.loop-leaf.arrays.items array c.loop-leaf.invariant.lists f_is.bound);
+            known = subst (IsKnown g) (sym w.known-is) w.in_ok-found.ensures.known;
             count = search rules;
           })
       | else-is_array w ↦ (let other : is_array_item l.item ≡ false = search rules in
           record {
             found = ap₂ (λ xs ys. map through xs ++ through_from g ext (map opened ys) (array_leaves rest)) (ap (λ v. v.items) w.arrays-is) (ap (λ v. v.items) w.stack-is) ∙ array_less g ext done os l rest other ∙ found;
-            few = search rules;
+            open_still = search rules;
+            known = subst (IsKnown g) (sym w.known-is) c.loop-leaf.invariant.known;
             lists = search rules;
             count = search rules;
           })

@@ -1,8 +1,8 @@
 -- One array less is open.
-use Rattle.std.proofs.Common.{rules, ◌≡◌, ◌≤◌, ◌^◌, All, false, ap, sym, ◌∙◌, subst, map, length}
+use Rattle.std.proofs.Common.{rules, ◌≡◌, All, false, ap, sym, ◌∙◌, subst, map}
 use Rattle.std.proofs.lemmas.List.Elements.{All-drop}
-use Rattle.nxt_layout.specs.declared.reach.OpenArray.{OpenArray}
 use Rattle.nxt_layout.specs.RowPasses.{opened, back_to, is_back}
+use Rattle.nxt_layout.specs.Known.{IsOpen}
 use Rattle.nxt_layout.proofs.Naming.{close_one}
 use Rattle.nxt_layout.proofs.reach.close.Goals as goal
 
@@ -14,9 +14,9 @@ loop-array-preserved-in-loop-array c =
           ap (λ os. back_to c.args.array (map opened os)) c.pop_front-over.ensures.rest
           ∙ close_one c.args.array c.loop-array.stack.items other
           ∙ c.loop-array.invariant.rest;
-      few =
+      open_still = λ g h.
           subst
-          (λ os. All (λ (o : OpenArray). length o.read.items ≤ 2 ^ 17) os)
+          (All (IsOpen g))
           (sym c.pop_front-over.ensures.rest)
-          (All-drop (λ (o : OpenArray). length o.read.items ≤ 2 ^ 17) 1 c.loop-array.stack.items c.loop-array.invariant.few);
+          (All-drop (IsOpen g) 1 c.loop-array.stack.items (c.loop-array.invariant.open_still g h));
     }

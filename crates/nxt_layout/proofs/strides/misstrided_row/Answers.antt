@@ -1,6 +1,7 @@
 -- The least of all rows.
 use Rattle.std.proofs.Common.{ℕ, Bool, not, ap, sym, ◌∙◌, filter, List}
 use Rattle.std.proofs.lemmas.List.{drop_all}
+use Rattle.std.specs.Rc.{rc_slice_items}
 use Rattle.nxt_layout.specs.Owners.{least_of}
 use Rattle.nxt_layout.specs.RowPasses.{ground_of, least, odd_of, is_even, through}
 use Rattle.nxt_layout.proofs.Leading.{least_of-none, missed_evenly}
@@ -17,5 +18,5 @@ returns c =
     ∙ ap (λ (rs : List ℕ). least_of c.loop-row.found (least (filter missed rs))) (sym (drop_all c.loop-row.row-index rows c.loop-row-test.false))
     ∙ c.loop-row.invariant
     ∙ ap (λ rs. least (filter missed rs)) c.as_slice-rows.ensures.value
-    ∙ ap (λ o. least (filter (λ r. not (is_even g array.bytes o r)) array.rows.items)) odd
+    ∙ ap (λ o. least (filter (λ r. not (is_even g array.bytes o r)) (rc_slice_items array.rows))) odd
     ∙ ap least (missed_evenly g (through array))

@@ -1,0 +1,18 @@
+-- What is found of the list's element is kept.
+use Rattle.std.proofs.Common.{◌≡◌, rules}
+use Rattle.nxt_types.specs.Shapes.{convertible}
+use Rattle.nxt_types.specs.OperandRules.{element_of}
+use Rattle.nxt_code.specs.Known.{shape_by}
+use Rattle.nxt_code.proofs.Answered.{pairs_more}
+use Rattle.nxt_code.proofs.known.Known.is_element.Goals as goal
+
+pub returns-clause-known : goal.returns-clause-known
+returns-clause-known c =
+    let ss = c.args.toc.now.shapes in
+    let right : c.converts-answer.result ≡ convertible (element_of (shape_by ss c.args.list)) (shape_by ss c.args.from) = search rules in
+    record {
+      wholes = c.requires.wholes;
+      elements = pairs_more (λ p. convertible (element_of (shape_by ss p.0)) (shape_by ss p.1)) c.args.self.now.elements c.insert.new.self (c.args.list, c.args.from) c.converts-answer.result c.requires.elements right c.in_ok-_none.ensures.updates.0;
+      taken = c.requires.taken;
+      lists = c.requires.lists;
+    }

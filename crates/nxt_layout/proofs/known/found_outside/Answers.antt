@@ -1,0 +1,32 @@
+-- The number outside is that of one element at 0.
+use Rattle.std.proofs.Common.{rules, ◌≡◌, ℕ, ◌+◌, ◌<◌, ◌≤◌, ◌^◌, [], ◌∷◌, refl, ap, subst, ◌∙◌, arith}
+use Rattle.std.proofs.lemmas.Result.{IfOk-weaker}
+use Rattle.nxt_model.specs.Reading.{row_count, u16_in}
+use Rattle.nxt_layout.specs.RowPasses.{ground_of, Takes}
+use Rattle.nxt_layout.proofs.Through.{told_in}
+use Rattle.nxt_layout.proofs.known.found_outside.Goals as goal
+
+zero_more : (n : ℕ) → n ≡ 0 + n
+zero_more n = omega arith
+
+pub found_of-requires : goal.found_of-requires
+found_of-requires c = (c.in_ok-take.ensures (ground_of c.args.space.now) (c.in_ok-names.ensures.table ∙ c.rows.ensures)).counted
+
+pub returns : goal.returns
+returns c =
+    let g = ground_of c.args.space.now in
+    let place = c.args.place in
+    let names = c.in_ok-names.names in
+    let none = c.in_ok-names.ensures.rows in
+    let table = c.in_ok-names.ensures.table ∙ c.rows.ensures in
+    let takes : Takes g (u16_in g.memory.bytes (0 + place) ∷ []) names c.take.new.self =
+    subst
+    (λ n. Takes g (n ∷ []) names c.take.new.self)
+    (c.number_at.ensures ∙ ap (u16_in g.memory.bytes) (zero_more place))
+    (c.in_ok-take.ensures g table)
+    in
+    let one : 1 ≤ 2 ^ 33 = omega arith in
+    let few : row_count g.memory < 2 ^ 16 = search rules in
+    IfOk-weaker c.found_of.result _ _
+    (λ f told. told_in g place c.args.bytes (0 ∷ []) names c.take.new.self 1 f none c.in_ok-names.ensures.beyond takes refl one few table told)
+    c.found_of.ensures

@@ -1,0 +1,137 @@
+// What is found in the elements of rows, once for the same rows.
+
+ghost use Rattle.std.specs.Prelude.{◌≡◌, ◌<◌, ◌≤◌, ◌^◌, [], ◌∷◌, flat_map, length, IfOk, OnOk};
+ghost use Rattle.std.specs.Rc.{rc_slice_items};
+ghost use Rattle.nxt_layout.specs.Rows.{elements_of};
+ghost use Rattle.nxt_layout.specs.RowPasses.{ground_of, IsCounted};
+ghost use Rattle.nxt_layout.specs.Known.{ArePlaced, IsFoundIn, IsKnown, IsSame, IsToldBy};
+
+use crate::dataspace::Dataspace;
+use crate::names::Names;
+use crate::places::places_of;
+use crate::strides::read_rows;
+use nxt_types::NoMemory;
+use std::alloc::Global;
+use std::collections::BTreeMap;
+use std::rc::RcSlice;
+
+/// What the numbers at a place in elements tell: the rows that they name, each at most twice, those of them that are read
+/// where an element takes so many bytes, how many numbers there are, and whether one is past the table's rows.
+#[derive(Drop)]
+pub struct Found {
+    pub rows: RcSlice<u16>,
+    pub read: RcSlice<u16>,
+    pub lists: u64,
+    pub beyond: bool,
+}
+
+/// What is found, by the place, the bytes of an element, and the rows whose elements have the numbers.
+pub type Known = BTreeMap<(u32, u32, RcSlice<u16>), Found>;
+
+/// What the number outside of all elements tells.
+pub fn found_outside(
+    alloc: Global,
+    space: &Dataspace,
+    place: u32,
+    bytes: u32,
+) -> Result<Found, NoMemory>
+    requires { place < 2 ^ 16 }
+    ensures { IfOk result (IsFoundIn (ground_of space.now) place bytes (0 ∷ [])) }
+{
+    let mut names = Names::new(alloc, space.rows())?;
+    names.take(space.number_at(place))?;
+    found_of(alloc, space, names, 1, bytes)
+}
+
+/// What the numbers in the elements of these rows tell. It is found once.
+pub fn found_in(
+    alloc: Global,
+    space: &Dataspace,
+    known: &mut Known,
+    rows: &RcSlice<u16>,
+    place: u32,
+    bytes: u32,
+) -> Result<Found, NoMemory>
+    requires place { place < 2 ^ 16 }
+    requires few { length (rc_slice_items rows.now) ≤ 2 ^ 17 }
+    requires placed { ArePlaced (ground_of space.now) (rc_slice_items rows.now) }
+    requires known { IsKnown (ground_of space.now) known.old }
+    ensures found { IfOk result (IsFoundIn (ground_of space.now) place bytes (flat_map (elements_of (ground_of space.now)) (rc_slice_items rows.now))) }
+    ensures known { OnOk result (IsKnown (ground_of space.now) known.new) }
+{
+    let key = (place, bytes, rows.clone()?);
+    if let Some(found) = known.get(&key) {
+        return found.share();
+    }
+    let found = found_anew(alloc, space, rows.as_slice(), place, bytes)?;
+    let shared = found.share()?;
+    let _none = known.insert(key, found)?;
+    Ok(shared)
+}
+
+fn found_anew(
+    alloc: Global,
+    space: &Dataspace,
+    rows: &[u16],
+    place: u32,
+    bytes: u32,
+) -> Result<Found, NoMemory>
+    requires place { place < 2 ^ 16 }
+    requires few { length rows.now ≤ 2 ^ 17 }
+    requires placed { ArePlaced (ground_of space.now) rows.now }
+    ensures { IfOk result (IsFoundIn (ground_of space.now) place bytes (flat_map (elements_of (ground_of space.now)) rows.now)) }
+{
+    let mut names = Names::new(alloc, space.rows())?;
+    let lists = elements(space, rows);
+    let places = places_of(alloc, space, rows, lists)?;
+    names.take_at(space, places.as_slice(), place)?;
+    found_of(alloc, space, names, lists, bytes)
+}
+
+// What these names tell.
+fn found_of(
+    alloc: Global,
+    space: &Dataspace,
+    names: Names,
+    lists: u64,
+    bytes: u32,
+) -> Result<Found, NoMemory>
+    requires { IsCounted names }
+    ensures { IfOk result (IsToldBy (ground_of space.now) bytes names lists) }
+{
+    let beyond = names.beyond;
+    let rows = names.ordered(alloc)?;
+    let read = read_rows(alloc, space, bytes, rows.as_slice())?;
+    Ok(Found {
+        rows: RcSlice::from_vec(rows)?,
+        read: RcSlice::from_vec(read)?,
+        lists,
+        beyond,
+    })
+}
+
+impl Found {
+    fn share(&self) -> Result<Found, NoMemory>
+        ensures { IfOk result (IsSame self.now) }
+    {
+        Ok(Found {
+            rows: self.rows.clone()?,
+            read: self.read.clone()?,
+            lists: self.lists,
+            beyond: self.beyond,
+        })
+    }
+}
+
+// How many elements the rows have.
+fn elements(space: &Dataspace, rows: &[u16]) -> u64
+    requires { length rows.now ≤ 2 ^ 17 }
+    ensures count { result ≡ length (flat_map (elements_of (ground_of space.now)) rows.now) }
+    ensures bound { result ≤ 2 ^ 33 }
+{
+    let mut count: u64 = 0;
+    for row in rows {
+        count += u64::from(space.count(*row));
+    }
+    count
+}
