@@ -1,3 +1,3 @@
-pub mod FirstStatement
 pub mod Fitting
 pub mod Meanings
+pub mod SeveralFitting

@@ -5,6 +5,3 @@
 pub mod run;
 
 pub use run::{run_array, runs};
-
-#[cfg(test)]
-mod tests;

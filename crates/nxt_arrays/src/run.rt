@@ -3,9 +3,9 @@
 ghost use Rattle.nxt_model.specs.Devices.{Devices};
 ghost use Rattle.nxt_model.specs.SystemCalls.{Clock};
 ghost use Rattle.nxt_space.specs.Outcomes.{Does};
-ghost use Rattle.nxt_ops.specs.Ops.{Done};
+ghost use Rattle.nxt_operands.specs.Operands.{Done};
 ghost use Rattle.std.specs.Prelude.{◌≡◌, ◌+◌, ◌<◌, ◌^◌, length, slice_range};
-ghost use Rattle.nxt_code.specs.OperandsSeen.{IsWhole};
+ghost use Rattle.nxt_types.specs.Statements.{IsWhole};
 ghost use Rattle.nxt_arrays.specs.Arrays.{CanRun, values_after, runs as does_run};
 
 use nxt_lists::{array_size, build, index, initialize, replace, subset};
@@ -55,19 +55,19 @@ pub fn run_array(
 {
     match i.op {
         Op::Index => index(alloc, space, i.a, i.b, i.c),
-        Op::Replace => replace(alloc, toc, space, i.a, i.b, i.c, i.d),
+        Op::Replace => replace(alloc, space, i.a, i.b, i.c, i.d),
         Op::Arrsize => {
             array_size(alloc, space, i.a, i.b);
             Ok(())
         }
-        Op::Arrbuild => build(alloc, toc, space, i.a, sources_of(i, words)),
+        Op::Arrbuild => build(alloc, space, i.a, sources_of(i, words)),
         Op::Arrsubset => subset(alloc, space, i.a, i.b, i.c, i.d),
-        Op::Arrinit => initialize(alloc, toc, space, i.a, i.b, i.c),
-        Op::Flatten => flatten(alloc, toc, space, i.a, i.b),
-        Op::Unflatten => unflatten(alloc, toc, space, i.a, i.b, i.c, i.d),
+        Op::Arrinit => initialize(alloc, space, i.a, i.b, i.c),
+        Op::Flatten => flatten(alloc, space, i.a, i.b),
+        Op::Unflatten => unflatten(alloc, space, i.a, i.b, i.c, i.d),
         Op::Numtostr => number_to_string(alloc, space, i.a, i.b),
         Op::Strtonum => string_to_number(alloc, space, i.a, i.b, i.c, i.d, i.e),
-        Op::Strcat => concatenate(alloc, toc, space, i.a, sources_of(i, words)),
+        Op::Strcat => concatenate(alloc, space, i.a, sources_of(i, words)),
         Op::Strsubset => substring(alloc, space, i.a, i.b, i.c, i.d),
         Op::Strtoarr => string_to_array(alloc, space, i.a, i.b),
         _ => array_to_string(alloc, space, i.a, i.b),

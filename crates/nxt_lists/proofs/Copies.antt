@@ -1,10 +1,9 @@
 -- Lists of copies of a value.
-use Rattle.std.proofs.Common.{◌≡◌, ℕ, zero, suc, ◌*◌, ◌<◌, ◌^◌, true, List, ◌∷◌, ◌++◌, map, flat_map, sum_by, replicate, Result, IsSome, refl, sym, ap, ap₂, ◌∙◌, subst, arith, suc-mul}
-use Rattle.std.specs.Prelude.{ℤ, IfOk, pos}
+use Rattle.std.proofs.Common.{◌≡◌, ℕ, zero, suc, ◌*◌, ◌<◌, ◌^◌, true, List, ◌∷◌, ◌++◌, map, flat_map, sum_by, replicate, IsSome, refl, sym, ap, ap₂, ◌∙◌, subst, arith, suc-mul}
+use Rattle.std.specs.Prelude.{ℤ, pos}
 use Rattle.std.proofs.lemmas.List.{length-replicate}
 use Rattle.std.proofs.lemmas.List.Elements.{All-replicate}
 use Rattle.std.proofs.lemmas.List.Sums.{sum_by-cons}
-use Rattle.std.proofs.lemmas.Result.{IfOk-weaker}
 use Rattle.nxt_types.specs.OperandRules.{is_list, element_of}
 use Rattle.nxt_types.specs.Shapes.{Shape, convertible}
 use Rattle.nxt_model.specs.Footprint.{list_bytes}
@@ -12,9 +11,9 @@ use Rattle.nxt_model.specs.Values.{Value, flat, list_of, stored, lists_in}
 use Rattle.nxt_space.specs.Sizes.{size_in, size_of_filled}
 use Rattle.nxt_space.specs.Variables.{Variables, AreSound, name_of, shape_of, value_of}
 use Rattle.nxt_space.specs.declared.sizing.Size.{Size}
-use Rattle.nxt_ops.proofs.Counting.{sound_part}
+use Rattle.nxt_operands.proofs.Counting.{sound_part}
 use Rattle.nxt_lists.specs.Pieces.{size_of_each}
-use Rattle.nxt_ops.proofs.Storing.{copy_filled}
+use Rattle.nxt_operands.proofs.Stored.{copy_filled}
 use Rattle.nxt_lists.proofs.ListElements.{IsElement}
 use Rattle.nxt_lists.proofs.ListStored.{AreFor, AreSmall, HasSize, flat_list, element_small, list_size}
 use Rattle.nxt_lists.proofs.Conversions.{element_strides}
@@ -35,16 +34,12 @@ copies_flat : (n : ℕ) (v : Value) → flat_map (λ (zs : List ℤ). zs) (repli
 copies_flat zero v = refl
 copies_flat (suc n) v = ap (λ zs. flat v ++ zs) (copies_flat n v)
 
-copies_spelled : (n : ℕ) (v : Value) (one zs : List ℤ) → one ≡ flat v → zs ≡ pos n ∷ flat_map (λ ys. ys) (replicate n one) → zs ≡ flat (list_of (replicate n v))
+pub copies_spelled : (n : ℕ) (v : Value) (one zs : List ℤ) → one ≡ flat v → zs ≡ pos n ∷ flat_map (λ ys. ys) (replicate n one) → zs ≡ flat (list_of (replicate n v))
 copies_spelled n v one zs is e =
     e
     ∙ ap (λ ys. pos n ∷ flat_map (λ (xs : List ℤ). xs) (replicate n ys)) is
     ∙ ap₂ (λ m ys. pos m ∷ ys) (sym (length-replicate n v)) (copies_flat n v)
     ∙ sym (flat_list (replicate n v))
-
-pub all_spelled : {E : Type 0} (n : ℕ) (v : Value) (one : List ℤ) (r : Result (List ℤ) E) → one ≡ flat v → IfOk r (λ zs. zs ≡ pos n ∷ flat_map (λ ys. ys) (replicate n one)) → IfOk r (λ zs. zs ≡ flat (list_of (replicate n v)))
-all_spelled n v one r is e =
-    IfOk-weaker r (λ zs. zs ≡ pos n ∷ flat_map (λ (ys : List ℤ). ys) (replicate n one)) (λ zs. zs ≡ flat (list_of (replicate n v))) (λ zs h. copies_spelled n v one zs is h) e
 
 -- as an element for the list
 pub record IsCopied (s : Variables) (dest value count : ℕ) (one : Size) : Type 0 where

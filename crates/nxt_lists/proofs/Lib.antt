@@ -7,4 +7,3 @@ pub mod ListStored
 pub mod Sections
 pub mod Sources
 pub mod Storable
-pub mod Told

@@ -8,12 +8,13 @@ use Rattle.std.proofs.lemmas.List.Sums.{sum_by-cons}
 use Rattle.std.proofs.lemmas.Nat.{mul-le}
 use Rattle.nxt_types.specs.OperandRules.{is_list, element_of, goes_into}
 use Rattle.nxt_types.specs.Shapes.{Shape, Array, convertible}
-use Rattle.nxt_model.specs.Footprint.{list_bytes, pool_size}
+use Rattle.nxt_model.specs.Footprint.{list_bytes}
+use Rattle.nxt_types.specs.Pool.{pool_size}
 use Rattle.nxt_model.specs.Means.Arrays.{pieces}
 use Rattle.nxt_model.specs.Means.Effects.{Given}
 use Rattle.nxt_model.specs.Values.{Value, Values, ListOf, no_more, value, items, elements, is_of, lists_among}
 use Rattle.nxt_space.specs.Variables.{HasStrides}
-use Rattle.nxt_ops.proofs.Counting.{IsSoundPart}
+use Rattle.nxt_operands.proofs.Counting.{IsSoundPart}
 use Rattle.nxt_lists.proofs.Conversions.{fits_then, list_from}
 
 -- a part of the variables that is an element for a list of such elements

@@ -1,11 +1,10 @@
 -- What is stored of a list's elements, and how much of the pool it takes.
-use Rattle.std.proofs.Common.{◌≡◌, ℕ, ◌+◌, ◌*◌, ◌^◌, ◌≤◌, true, Result, List, [], ◌∷◌, ◌++◌, map, length, sum_by, flat_map, IsSome, refl, sym, ap, ap₂, ◌∙◌, subst, arith, append-nil, append_assoc}
-use Rattle.std.specs.Prelude.{ℤ, pos, All, IfOk}
+use Rattle.std.proofs.Common.{◌≡◌, ℕ, ◌+◌, ◌*◌, ◌^◌, ◌≤◌, true, List, [], ◌∷◌, ◌++◌, map, length, sum_by, flat_map, IsSome, refl, sym, ap, ap₂, ◌∙◌, subst, arith, append-nil, append_assoc}
+use Rattle.std.specs.Prelude.{ℤ, pos, All}
 use Rattle.std.proofs.lemmas.List.{length-map}
 use Rattle.std.proofs.lemmas.List.Elements.{All-head, All-tail, All-weaker, All-map}
 use Rattle.std.proofs.lemmas.List.Sums.{sum_by-cons, sum_by-le}
 use Rattle.std.proofs.lemmas.Nat.{mul-le}
-use Rattle.std.proofs.lemmas.Result.{IfOk-weaker}
 use Rattle.nxt_types.specs.OperandRules.{is_list, element_of}
 use Rattle.nxt_types.specs.Shapes.{Shape, Array}
 use Rattle.nxt_model.specs.Footprint.{list_bytes}
@@ -16,9 +15,10 @@ use Rattle.nxt_space.specs.Sizes.{IsCountable, size_in}
 use Rattle.nxt_space.specs.Variables.{Variables, AreSound, HasStrides, name_of, shape_of}
 use Rattle.nxt_space.specs.declared.sizing.Size.{Size}
 use Rattle.nxt_space.proofs.FilledLaws.{filled_stored}
-use Rattle.nxt_ops.proofs.Counting.{sound_part, grows}
-use Rattle.nxt_ops.proofs.Storing.{IsStorable}
-use Rattle.nxt_lists.specs.Pieces.{size_of_each, with_list}
+use Rattle.nxt_operands.proofs.Counting.{sound_part, grows}
+use Rattle.nxt_operands.proofs.Stored.{IsStorable}
+use Rattle.nxt_lists.specs.Pieces.{size_of_each}
+use Rattle.nxt_operands.specs.Operands.{with_list}
 use Rattle.nxt_lists.proofs.ListElements.{IsElement}
 
 -- ---- by what numbers spell
@@ -128,7 +128,7 @@ listed_in : (s : Variables) (i : ℕ) (vs : List Value) → AreSound s → IsSom
 listed_in s i vs sound some e = listed (shape_of s i) vs (sound_part s i sound some).strides e.list e.elements e.few
 
 -- the flat form of a list is stored as that list
-list_storable : (s : Variables) (i : ℕ) (vs : List Value) (zs : List ℤ) → AreSound s → IsSome (name_of s i) → AreFor s i vs → zs ≡ flat (list_of vs) → IsStorable s i (list_of vs) zs
+pub list_storable : (s : Variables) (i : ℕ) (vs : List Value) (zs : List ℤ) → AreSound s → IsSome (name_of s i) → AreFor s i vs → zs ≡ flat (list_of vs) → IsStorable s i (list_of vs) zs
 list_storable s i vs zs sound some e spelled =
     let l = shape_of s i in
     let all = listed_in s i vs sound some e in
@@ -145,7 +145,3 @@ list_size s i vs count size sound some e counted sized =
     let all = listed_in s i vs sound some e in
     let is = ap₂ (with_list (shape_of s i)) counted sized ∙ all.sized in
     record { is = is; small = subst IsCountable (sym is) all.countable }
-
-pub spelled_storable : {E : Type 0} (s : Variables) (i : ℕ) (vs : List Value) (r : Result (List ℤ) E) → AreSound s → IsSome (name_of s i) → AreFor s i vs → IfOk r (λ zs. zs ≡ flat (list_of vs)) → IfOk r (IsStorable s i (list_of vs))
-spelled_storable s i vs r sound some e spelled =
-    IfOk-weaker r (λ zs. zs ≡ flat (list_of vs)) (IsStorable s i (list_of vs)) (λ zs is. list_storable s i vs zs sound some e is) spelled

@@ -1,61 +1,20 @@
 -- Values that are stored by what numbers spell.
-use Rattle.std.proofs.Common.{◌≡◌, ℕ, ◌*◌, ◌<◌, ◌≤◌, true, List, [], length, get_or, Result, Err, IsSome, inl, inr, refl, sym, ap, ◌∙◌, subst, arith}
-use Rattle.std.specs.Prelude.{ℤ, pos, IfOk, slice_index_or}
+use Rattle.std.proofs.Common.{◌≡◌, ℕ, ◌*◌, ◌<◌, ◌≤◌, true, List, [], length, get_or, IsSome, inl, inr, refl, sym, ap, ◌∙◌, subst, arith}
+use Rattle.std.specs.Prelude.{ℤ, pos, slice_index_or}
 use Rattle.std.proofs.lemmas.Bool.{and_parts, cases_lt}
 use Rattle.std.proofs.lemmas.List.{get_or_default, get_or_past}
 use Rattle.std.proofs.lemmas.List.Elements.{All-get_or}
-use Rattle.std.proofs.lemmas.Result.{IfOk-weaker}
 use Rattle.nxt_types.specs.OperandRules.{is_list, element_of}
 use Rattle.nxt_types.specs.Shapes.{Shape, Number, Array, Cluster, Members, no_members, member, convertible, convertible_members}
-use Rattle.nxt_model.specs.Footprint.{list_bytes, member_bytes, pool_size}
+use Rattle.nxt_model.specs.Footprint.{list_bytes, member_bytes}
 use Rattle.nxt_model.specs.Means.Effects.{element}
 use Rattle.nxt_model.specs.Values.{Value, Values, Num, ListOf, GroupOf, no_more, value, items, elements, flat, stored, stored_members, zero_of, zeros_of, is_of, are_of, lists_in, lists_among}
 use Rattle.nxt_space.specs.Fills.{filled, all_filled}
-use Rattle.nxt_space.specs.Outcomes.{Does}
-use Rattle.nxt_space.specs.Sizes.{IsCountable, size_in, size_of_filled}
-use Rattle.nxt_space.specs.Variables.{Variables, AreSound, name_of, shape_of, value_of, with_value, with_values, footprint_of, footprint_with}
-use Rattle.nxt_space.specs.declared.fault.OpFault.{OpFault}
-use Rattle.nxt_space.specs.declared.fault.OpFault.TheVariants.{PoolPassed}
-use Rattle.nxt_space.specs.declared.sizing.Size.{Size}
-use Rattle.nxt_space.proofs.VariableLaws.{footprint_told}
-use Rattle.nxt_ops.specs.Ops.{Done}
-use Rattle.nxt_ops.proofs.Counting.{IsSoundPart, sound_part, value_countable}
-use Rattle.nxt_ops.proofs.Storing.{IsStorable}
+use Rattle.nxt_space.specs.Sizes.{IsCountable, size_in}
+use Rattle.nxt_space.specs.Variables.{Variables, AreSound, name_of, shape_of, value_of}
+use Rattle.nxt_operands.proofs.Counting.{IsSoundPart, sound_part}
+use Rattle.nxt_operands.proofs.Stored.{IsStorable, part_storable}
 use Rattle.nxt_lists.proofs.ListElements.{part_elements}
-use Rattle.nxt_ops.proofs.Meant.{Gives, given_stored}
-use Rattle.nxt_ops.proofs.Storing.{copy_filled}
-
--- ---- how a statement ends
-
-pub all_countable : {E : Type 0} (s : Variables) (i : ℕ) (v : Value) (r : Result (List ℤ) E) → IfOk r (IsStorable s i v) → IfOk r (λ zs. IsCountable (size_of_filled (shape_of s i) zs))
-all_countable s i v r e =
-    IfOk-weaker r (IsStorable s i v) (λ zs. IsCountable (size_of_filled (shape_of s i) zs)) (λ zs one. one.countable) e
-
-pub store_gives : {E : Type 0} (old new : Variables) (i : ℕ) (v : Value) (r : Result (List ℤ) E) (result : Result Unit OpFault) → IfOk r (IsStorable old i v) → ((w : Value) → IfOk r (λ zs. (filled (shape_of old i) zs).0 ≡ w) → Does Done (with_value old i w) old result new) → Gives old i v result new
-store_gives old new i v r result e does =
-    let w = stored (shape_of old i) v in
-    given_stored old new i v result
-    (does w (IfOk-weaker r (IsStorable old i v) (λ zs. (filled (shape_of old i) zs).0 ≡ w) (λ zs one. one.filled) e))
-
--- the bytes that the variables take with a value of a size
-room_told : (s : Variables) (i : ℕ) (v : Value) (size : Size) → AreSound s → IsSome (name_of s i) → size ≡ size_in (shape_of s i) v → footprint_with s i size.lists size.bytes ≡ footprint_of (with_values (with_value s i v) s)
-room_told s i v size sound some is =
-    ap (λ (z : Size). footprint_with s i z.lists z.bytes) is ∙ sym (footprint_told s i v sound.shapes some)
-
--- where the pool has room for the value, and where it has none
-pub room_found : (s : Variables) (i : ℕ) (v : Value) (size : Size) → AreSound s → IsSome (name_of s i) → size ≡ size_in (shape_of s i) v → footprint_with s i size.lists size.bytes ≤ pool_size → footprint_of (with_values (with_value s i v) s) ≤ pool_size
-room_found s i v size sound some is h = subst (λ n. n ≤ pool_size) (room_told s i v size sound some is) h
-
-pub room_refused : (s : Variables) (i : ℕ) (v : Value) (size : Size) (bytes : ℕ) → AreSound s → IsSome (name_of s i) → size ≡ size_in (shape_of s i) v → (pool_size < footprint_with s i size.lists size.bytes) × (bytes ≡ footprint_with s i size.lists size.bytes) → Does {T = Unit {0}} Done (with_value s i v) s (Err (PoolPassed bytes)) s
-room_refused s i v size bytes sound some is h =
-    let told = room_told s i v size sound some is in
-    (subst (λ n. pool_size < n) told h.0, h.1 ∙ told, refl)
-
--- the flat form of a part
-part_storable : (s : Variables) (i : ℕ) (t : Shape) (v : Value) (zs : List ℤ) → AreSound s → IsSome (name_of s i) → IsSoundPart t v → convertible (shape_of s i) t ≡ true → zs ≡ flat v → IsStorable s i v zs
-part_storable s i t v zs sound some part fits is =
-    let filled = copy_filled (shape_of s i) t v zs fits part.of is in
-    record { filled = filled; countable = value_countable (shape_of s i) t v zs (sound_part s i sound some).strides part fits filled }
 
 -- ---- the zero value
 
@@ -119,24 +78,24 @@ element_at : (m : ℕ) (t : Shape) (v : Value) (k : ℕ) → IsSoundPart (Array 
 element_at m t v k part within = All-get_or (IsSoundPart t) (elements v) k (Num (pos 0)) within (part_elements m t v part)
 
 -- of a list an element, or the zero value past its end
-index_by : {E : Type 0} (s : Variables) (i : ℕ) (u : Shape) (v : Value) (k : ℕ) (r : Result (List ℤ) E) → AreSound s → IsSome (name_of s i) → is_list u ≡ true → IsSoundPart u v → convertible (shape_of s i) (element_of u) ≡ true → (k < length (elements v) → IfOk r (λ zs. zs ≡ flat (get_or (elements v) k (Num (pos 0))))) → (length (elements v) ≤ k → IfOk r (λ zs. zs ≡ [])) → IfOk r (IsStorable s i (slice_index_or (elements v) k (zero_of (element u))))
-index_by s i (Array m t) v k r sound some is part fits within past =
+index_by : (s : Variables) (i : ℕ) (u : Shape) (v : Value) (k : ℕ) (zs : List ℤ) → AreSound s → IsSome (name_of s i) → is_list u ≡ true → IsSoundPart u v → convertible (shape_of s i) (element_of u) ≡ true → (k < length (elements v) → zs ≡ flat (get_or (elements v) k (Num (pos 0)))) → (length (elements v) ≤ k → zs ≡ []) → IsStorable s i (slice_index_or (elements v) k (zero_of (element u))) zs
+index_by s i (Array m t) v k zs sound some is part fits within past =
     let xs = elements v in
     let none = Num (pos 0) in
     elim (cases_lt k (length xs)) [
       | inl less ↦
           subst
-          (λ w. IfOk r (IsStorable s i w))
+          (λ w. IsStorable s i w zs)
           (get_or_default xs k none (zero_of t) less)
-          (IfOk-weaker r (λ zs. zs ≡ flat (get_or xs k none)) (IsStorable s i (get_or xs k none)) (λ zs e. part_storable s i t (get_or xs k none) zs sound some (element_at m t v k part less) fits e) (within less))
+          (part_storable s i t (get_or xs k none) zs sound some (element_at m t v k part less) fits (within less))
       | inr more ↦
           subst
-          (λ w. IfOk r (IsStorable s i w))
+          (λ w. IsStorable s i w zs)
           (sym (get_or_past xs k (zero_of t) more))
-          (IfOk-weaker r (λ zs. zs ≡ []) (IsStorable s i (zero_of t)) (λ zs e. zero_storable s i t zs sound some fits e) (past more))
+          (zero_storable s i t zs sound some fits (past more))
     ]
-index_by s i u v k r sound some is part fits within past = let f : ⊥ = cc in absurd f
+index_by s i u v k zs sound some is part fits within past = let f : ⊥ = cc in absurd f
 
-pub index_storable : {E : Type 0} (s : Variables) (dest list k : ℕ) (r : Result (List ℤ) E) → AreSound s → IsSome (name_of s dest) → IsSome (name_of s list) → is_list (shape_of s list) ≡ true → convertible (shape_of s dest) (element_of (shape_of s list)) ≡ true → let xs = elements (value_of s list) in (k < length xs → IfOk r (λ zs. zs ≡ flat (get_or xs k (Num (pos 0))))) → (length xs ≤ k → IfOk r (λ zs. zs ≡ [])) → IfOk r (IsStorable s dest (slice_index_or xs k (zero_of (element (shape_of s list)))))
-index_storable s dest list k r sound has_dest has_list is fits within past =
-    index_by s dest (shape_of s list) (value_of s list) k r sound has_dest is (sound_part s list sound has_list) fits within past
+pub index_storable : (s : Variables) (dest list k : ℕ) (zs : List ℤ) → AreSound s → IsSome (name_of s dest) → IsSome (name_of s list) → is_list (shape_of s list) ≡ true → convertible (shape_of s dest) (element_of (shape_of s list)) ≡ true → let xs = elements (value_of s list) in (k < length xs → zs ≡ flat (get_or xs k (Num (pos 0)))) → (length xs ≤ k → zs ≡ []) → IsStorable s dest (slice_index_or xs k (zero_of (element (shape_of s list)))) zs
+index_storable s dest list k zs sound has_dest has_list is fits within past =
+    index_by s dest (shape_of s list) (value_of s list) k zs sound has_dest is (sound_part s list sound has_list) fits within past

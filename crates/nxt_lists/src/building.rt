@@ -7,31 +7,24 @@ ghost use Rattle.nxt_model.specs.Devices.{Devices};
 ghost use Rattle.nxt_model.specs.Means.Arrays.{build as build_means, initialize as initialize_means};
 ghost use Rattle.nxt_model.specs.Values.{flat as flat_form, list_of, stored};
 ghost use Rattle.nxt_space.specs.Sizes.{IsCountable};
-ghost use Rattle.nxt_space.specs.Variables.{name_of, shape_of};
+ghost use Rattle.nxt_space.specs.Variables.{AreSound, name_of, shape_of};
 ghost use Rattle.nxt_space.specs.Outcomes.{Does};
-ghost use Rattle.nxt_ops.specs.Ops.{AreOf, Done, given, shape_in};
-ghost use Rattle.nxt_ops.specs.Operands.{place_of, values_stored};
+ghost use Rattle.nxt_operands.specs.Operands.{Done, given, place_of, values_stored};
 ghost use Rattle.nxt_lists.specs.Pieces.{pieces_of, many_filled, size_of_each};
 
-use crate::gathering::{push_pieces, push_value};
-use crate::storing::{check_room, store_spelled};
+use crate::gathering::push_pieces;
+use nxt_operands::reading::flat_of;
+use nxt_operands::storing::{check_room, store};
 use nxt_space::sizing::NONE;
 use nxt_space::{Flat, OpFault, Size, Space, spelled_size};
 use nxt_types::NoMemory;
 use nxt_types::numbers::wrap;
 use nxt_types::shape::Shape;
-use nxt_types::toc::Toc;
 use std::alloc::Global;
 
 /// Stores the list of its sources, one after another: a value that is an element for it, or else a list's elements.
-pub fn build(
-    alloc: Global,
-    toc: &Toc,
-    space: &mut Space,
-    dest: u16,
-    sources: &[u16],
-) -> Result<(), OpFault>
-    requires of { AreOf toc.now space.old }
+pub fn build(alloc: Global, space: &mut Space, dest: u16, sources: &[u16]) -> Result<(), OpFault>
+    requires sound { AreSound space.old }
     requires dest { IsSome (name_of space.old dest) }
     requires of_list { is_list (shape_of space.old dest) ≡ true }
     requires few { length sources.now < 2 ^ 16 }
@@ -39,28 +32,21 @@ pub fn build(
     requires fit { All (λ i. goes_into (shape_of space.old dest) (shape_of space.old i) ≡ true) sources.now }
     ensures { (d : Devices) → Does Done (values_stored space.old (place_of space.old dest ∷ []) (build_means d (given space.old dest ∷ map (given space.old) sources.now))) space.old result space.new }
 {
-    let found = match measured(alloc, toc, space, dest, sources) {
-        Ok(found) => found,
-        Err(_) => return Err(OpFault::NoMemory),
-    };
-    match check_room(toc, space, dest, found.count, found.size) {
-        Ok(()) => {}
-        Err(fault) => return Err(fault),
-    }
-    let flat = joined(alloc, toc, space, dest, sources, found.count);
-    store_spelled(space, dest, flat)
+    let found = measured(alloc, space, dest, sources)?;
+    check_room(space, dest, found.count, found.size)?;
+    let flat = joined(alloc, space, dest, sources, found.count)?;
+    store(space, dest, &flat)
 }
 
 /// Stores a list of so many copies of a value.
 pub fn initialize(
     alloc: Global,
-    toc: &Toc,
     space: &mut Space,
     dest: u16,
     value: u16,
     count: u16,
 ) -> Result<(), OpFault>
-    requires of { AreOf toc.now space.old }
+    requires sound { AreSound space.old }
     requires dest { IsSome (name_of space.old dest) }
     requires value { IsSome (name_of space.old value) }
     requires count { IsSome (name_of space.old count) }
@@ -70,18 +56,11 @@ pub fn initialize(
     ensures { (d : Devices) → Does Done (values_stored space.old (place_of space.old dest ∷ []) (initialize_means d (given space.old dest) (given space.old value) (given space.old count))) space.old result space.new }
 {
     let count = wrap(space.get(count));
-    let mut one = Flat::new(alloc);
-    match push_value(alloc, space, value, &mut one) {
-        Ok(()) => {}
-        Err(_) => return Err(OpFault::NoMemory),
-    }
-    let (size, _) = spelled_size(element_of(toc, dest), one.as_slice());
-    match check_room(toc, space, dest, u64::from(count), times(size, count)) {
-        Ok(()) => {}
-        Err(fault) => return Err(fault),
-    }
-    let flat = copies(alloc, count, one.as_slice());
-    store_spelled(space, dest, flat)
+    let one = flat_of(alloc, space, value)?;
+    let (size, _) = spelled_size(element_of(space, dest), one.as_slice());
+    check_room(space, dest, u64::from(count), times(size, count))?;
+    let flat = copies(alloc, count, one.as_slice())?;
+    store(space, dest, &flat)
 }
 
 // How many elements sources give for a list, and what they take of the pool.
@@ -92,14 +71,8 @@ struct Found {
 }
 
 // How many elements all sources give for a list, and what they take of the pool there.
-fn measured(
-    alloc: Global,
-    toc: &Toc,
-    space: &Space,
-    dest: u16,
-    sources: &[u16],
-) -> Result<Found, NoMemory>
-    requires of { AreOf toc.now space.now }
+fn measured(alloc: Global, space: &Space, dest: u16, sources: &[u16]) -> Result<Found, NoMemory>
+    requires sound { AreSound space.now }
     requires dest { IsSome (name_of space.now dest) }
     requires of_list { is_list (shape_of space.now dest) ≡ true }
     requires few { length sources.now < 2 ^ 16 }
@@ -107,12 +80,12 @@ fn measured(
     requires fit { All (λ i. goes_into (shape_of space.now dest) (shape_of space.now i) ≡ true) sources.now }
     ensures { IfOk result (λ found. let vs = pieces_of space.now dest sources.now in let s = element_shape (shape_of space.now dest) in found ≡ record { count = length vs; size = size_of_each s (map (stored s) vs) }) }
 {
-    let element = element_of(toc, dest);
+    let element = element_of(space, dest);
     let mut count = 0;
     let mut size = NONE;
     for source in sources {
         let mut flat = Flat::new(alloc);
-        let more = push_pieces(alloc, toc, space, dest, *source, u32::MAX, &mut flat)?;
+        let more = push_pieces(alloc, space, dest, *source, u32::MAX, &mut flat)?;
         size = size.plus(size_of_many(element, more, flat.as_slice()));
         count += u64::from(more);
     }
@@ -120,11 +93,11 @@ fn measured(
 }
 
 // The shape of a list's elements.
-fn element_of(toc: &Toc, list: u16) -> &Shape
-    requires { is_list (shape_in toc.now list) ≡ true }
-    ensures { tree result.now ≡ element_shape (shape_in toc.now list) }
+fn element_of(space: &Space, list: u16) -> &Shape
+    requires { is_list (shape_of space.now list) ≡ true }
+    ensures { tree result.now ≡ element_shape (shape_of space.now list) }
 {
-    match toc.shape(list) {
+    match space.shape(list) {
         Some(Shape::List(_, element)) => element,
         _ => unreachable!(),
     }
@@ -148,13 +121,12 @@ fn size_of_many(shape: &Shape, count: u32, from: &[i64]) -> Size
 // The flat form of the list of what all sources give, which has so many elements.
 fn joined(
     alloc: Global,
-    toc: &Toc,
     space: &Space,
     dest: u16,
     sources: &[u16],
     count: u64,
 ) -> Result<Flat, NoMemory>
-    requires of { AreOf toc.now space.now }
+    requires sound { AreSound space.now }
     requires of_list { is_list (shape_of space.now dest) ≡ true }
     requires few { count < 2 ^ 63 }
     requires sources { All (λ i. IsSome (name_of space.now i)) sources.now }
@@ -165,7 +137,7 @@ fn joined(
     let mut flat = Flat::new(alloc);
     flat.push(count as i64)?;
     for source in sources {
-        push_pieces(alloc, toc, space, dest, *source, u32::MAX, &mut flat)?;
+        push_pieces(alloc, space, dest, *source, u32::MAX, &mut flat)?;
     }
     Ok(flat)
 }

@@ -8,15 +8,13 @@ ghost use Rattle.nxt_model.specs.Means.Arrays.{index as index_means, replace as 
 ghost use Rattle.nxt_model.specs.Values.{Num, elements, flat as flat_form, list_of};
 ghost use Rattle.nxt_space.specs.Variables.{AreSound, name_of, shape_of, value_of};
 ghost use Rattle.nxt_space.specs.Outcomes.{Does};
-ghost use Rattle.nxt_ops.specs.Ops.{AreOf, Done, given};
-ghost use Rattle.nxt_ops.specs.Operands.{given_or_left, place_of, values_stored};
+ghost use Rattle.nxt_operands.specs.Operands.{Done, given, given_or_left, place_of, values_stored};
 
 use crate::gathering::{length_of, push_element, push_elements, push_pieces};
-use crate::storing::store_spelled;
-use nxt_ops::operands::word_or;
-use nxt_space::{Flat, OpFault, Path, Space};
+use nxt_operands::operands::word_or;
+use nxt_operands::storing::store;
+use nxt_space::{Flat, OpFault, Space};
 use nxt_types::NoMemory;
-use nxt_types::toc::Toc;
 use std::alloc::Global;
 
 /// Stores the element of a list at an index (0 where it is left out), or past the list's end the zero value.
@@ -28,8 +26,8 @@ pub fn index(alloc: Global, space: &mut Space, dest: u16, list: u16, at: u16) ->
     requires fit { convertible (shape_of space.old dest) (element_of (shape_of space.old list)) ≡ true }
     ensures { (d : Devices) → Does Done (values_stored space.old (place_of space.old dest ∷ []) (index_means d (given space.old dest) (given space.old list) (given_or_left space.old at))) space.old result space.new }
 {
-    let flat = element_or_none(alloc, space, list, word_or(space, at, 0));
-    store_spelled(space, dest, flat)
+    let flat = element_or_none(alloc, space, list, word_or(space, at, 0))?;
+    store(space, dest, &flat)
 }
 
 // The flat form of a list's element, or no numbers past the list's end.
@@ -49,14 +47,13 @@ fn element_or_none(alloc: Global, space: &Space, list: u16, k: u32) -> Result<Fl
 /// Stores a list with an element, or with its elements from an index on (0 where it is left out), replaced by others.
 pub fn replace(
     alloc: Global,
-    toc: &Toc,
     space: &mut Space,
     dest: u16,
     list: u16,
     at: u16,
     new: u16,
 ) -> Result<(), OpFault>
-    requires of { AreOf toc.now space.old }
+    requires sound { AreSound space.old }
     requires dest { IsSome (name_of space.old dest) }
     requires list { IsSome (name_of space.old list) }
     requires new { IsSome (name_of space.old new) }
@@ -65,20 +62,12 @@ pub fn replace(
     requires goes { goes_into (shape_of space.old list) (shape_of space.old new) ≡ true }
     ensures { (d : Devices) → Does Done (values_stored space.old (place_of space.old dest ∷ []) (replace_means d (given space.old dest) (given space.old list) (given_or_left space.old at) (given space.old new))) space.old result space.new }
 {
-    let flat = overwritten(alloc, toc, space, list, word_or(space, at, 0), new);
-    store_spelled(space, dest, flat)
+    let flat = overwritten(alloc, space, list, word_or(space, at, 0), new)?;
+    store(space, dest, &flat)
 }
 
 // The flat form of a list with others in place of its elements from an index on, as many as fit.
-fn overwritten(
-    alloc: Global,
-    toc: &Toc,
-    space: &Space,
-    list: u16,
-    at: u32,
-    new: u16,
-) -> Result<Flat, NoMemory>
-    requires of { AreOf toc.now space.now }
+fn overwritten(alloc: Global, space: &Space, list: u16, at: u32, new: u16) -> Result<Flat, NoMemory>
     requires list { IsSome (name_of space.now list) }
     requires new { IsSome (name_of space.now new) }
     requires of_list { is_list (shape_of space.now list) ≡ true }
@@ -90,7 +79,7 @@ fn overwritten(
     let mut flat = Flat::new(alloc);
     flat.push(i64::from(length))?;
     push_elements(alloc, space, list, 0, from, &mut flat)?;
-    let count = push_pieces(alloc, toc, space, list, new, length - from, &mut flat)?;
+    let count = push_pieces(alloc, space, list, new, length - from, &mut flat)?;
     push_elements(alloc, space, list, from + count, length, &mut flat)?;
     Ok(flat)
 }
@@ -125,8 +114,8 @@ pub fn subset(
     let length = length_of(alloc, space, list);
     let from = word_or(space, at, 0).min(length);
     let count = word_or(space, count, length).min(length - from);
-    let flat = list_between(alloc, space, list, from, from + count);
-    store_spelled(space, dest, flat)
+    let flat = list_between(alloc, space, list, from, from + count)?;
+    store(space, dest, &flat)
 }
 
 // The flat form of the list of a list's elements from one index up to another.

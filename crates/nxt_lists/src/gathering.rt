@@ -6,13 +6,12 @@ ghost use Rattle.nxt_types.specs.Shapes.{tree, convertible as convertible_shapes
 ghost use Rattle.nxt_model.specs.Means.Arrays.{pieces};
 ghost use Rattle.nxt_model.specs.Values.{Num, elements, flat as flat_form};
 ghost use Rattle.nxt_space.specs.Variables.{name_of, shape_of, value_of};
-ghost use Rattle.nxt_ops.specs.Ops.{AreOf, given, shape_in};
+ghost use Rattle.nxt_operands.specs.Operands.{given};
 
 use nxt_space::{Flat, Path, Space};
 use nxt_types::NoMemory;
 use nxt_types::conversion::convertible;
 use nxt_types::shape::Shape;
-use nxt_types::toc::Toc;
 use std::alloc::Global;
 
 /// How many elements a list has.
@@ -20,11 +19,7 @@ pub fn length_of(alloc: Global, space: &Space, list: u16) -> u32
     requires { IsSome (name_of space.now list) }
     ensures { result ≡ length (elements (value_of space.now list)) }
 {
-    let whole = Path {
-        var: list,
-        steps: Flat::new(alloc),
-    };
-    space.length(&whole)
+    space.length(&Path::whole(alloc, list))
 }
 
 /// Adds the flat form of a value.
@@ -32,11 +27,7 @@ pub fn push_value(alloc: Global, space: &Space, i: u16, flat: &mut Flat) -> Resu
     requires { IsSome (name_of space.now i) }
     ensures { OnOk result (flat.new ≡ flat.old ++ flat_form (value_of space.now i)) }
 {
-    let whole = Path {
-        var: i,
-        steps: Flat::new(alloc),
-    };
-    space.gather(&whole, flat)
+    space.gather(&Path::whole(alloc, i), flat)
 }
 
 /// Adds the flat form of a list's element.
@@ -80,10 +71,10 @@ pub fn push_elements(
 }
 
 /// Whether a value is an element for a list.
-pub fn is_element(toc: &Toc, list: u16, value: u16) -> bool
-    ensures { result ≡ convertible_shapes (element_of (shape_in toc.now list)) (shape_in toc.now value) }
+pub fn is_element(space: &Space, list: u16, value: u16) -> bool
+    ensures { result ≡ convertible_shapes (element_of (shape_of space.now list)) (shape_of space.now value) }
 {
-    match (toc.shape(list), toc.shape(value)) {
+    match (space.shape(list), space.shape(value)) {
         (Some(list), Some(value)) => has_element(list, value),
         _ => false,
     }
@@ -103,21 +94,19 @@ fn has_element(list: &Shape, value: &Shape) -> bool
 /// else its elements. Gives their number.
 pub fn push_pieces(
     alloc: Global,
-    toc: &Toc,
     space: &Space,
     list: u16,
     value: u16,
     most: u32,
     flat: &mut Flat,
 ) -> Result<u32, NoMemory>
-    requires of { AreOf toc.now space.now }
     requires named { IsSome (name_of space.now value) }
     requires of_list { is_list (shape_of space.now list) ≡ true }
     requires fit { goes_into (shape_of space.now list) (shape_of space.now value) ≡ true }
     ensures count { IfOk result (λ n. n ≡ length (take most (pieces (shape_of space.now list) (given space.now value)))) }
     ensures flat { OnOk result (flat.new ≡ flat.old ++ flat_map flat_form (take most (pieces (shape_of space.now list) (given space.now value)))) }
 {
-    if !is_element(toc, list, value) {
+    if !is_element(space, list, value) {
         let count = length_of(alloc, space, value).min(most);
         push_elements(alloc, space, value, 0, count, flat)?;
         return Ok(count);

@@ -4,7 +4,6 @@
 pub mod building;
 pub mod elements;
 mod gathering;
-mod storing;
 
 pub use building::{build, initialize};
 pub use elements::{array_size, index, replace, subset};

@@ -13,9 +13,9 @@ use Rattle.nxt_types.specs.Shapes.{Shape, Void, Number, Array, Cluster, Mutex, i
 use Rattle.nxt_model.specs.Means.Effects.{element, Given}
 use Rattle.nxt_model.specs.Means.Numbers.{deciding, deciding_among, either_signed, holds}
 use Rattle.nxt_model.specs.Values.{Value, number, elements}
-use Rattle.nxt_ops.specs.Elements.{numbers_in}
+use Rattle.nxt_operands.specs.Numbers.{numbers_in}
 use Rattle.nxt_ops.specs.Ops.{deciding_numbers}
-use Rattle.nxt_ops.proofs.NumberLists.{numbers_shape, alike_numbers}
+use Rattle.nxt_operands.proofs.NumberLists.{numbers_shape, alike_numbers}
 
 -- two numbers are taken as signed or as unsigned
 pub numbers_decide : (s t : Shape) (x y : Value) → is_number s ≡ true → deciding s t x y ≡ (taken (either_signed s t) (number x), taken (either_signed s t) (number y))

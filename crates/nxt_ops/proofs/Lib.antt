@@ -1,11 +1,7 @@
-pub mod CodeFit
-pub mod Counting
+pub mod OwnOperands
 pub mod DecidingNumbers
 pub mod Fitting
 pub mod Meanings
-pub mod Meant
-pub mod NumberLists
 pub mod PairedNumbers
 pub mod Signs
-pub mod Storing
 pub mod Words

@@ -1,20 +1,13 @@
--- Lists of numbers, and what operators give for them.
-use Rattle.std.specs.Prelude.{◌≡◌, ℕ, Bool, List, [], ◌∷◌, map, zip, length, slice_index_or, ℤ, pos}
+-- What operators give for numbers and lists of numbers.
+use Rattle.std.specs.Prelude.{ℕ, Bool, List, [], ◌∷◌, map, zip, length, slice_index_or, ℤ, pos}
 use Rattle.nxt_types.specs.Shapes.{Shape, Array}
-use Rattle.nxt_model.specs.Values.{Value, Num, list_of, elements, number}
+use Rattle.nxt_model.specs.Values.{Value, number}
+use Rattle.nxt_operands.specs.Numbers.{numbers_in}
 use Rattle.nxt_ops.specs.declared.lists.Source.{Source}
 use Rattle.nxt_ops.specs.declared.lists.Source.TheVariants.{All, Each}
 use Rattle.nxt_ops.specs.declared.operator.Two.{Two}
 use Rattle.nxt_ops.specs.declared.operator.One.{One}
 use Rattle.nxt_ops.specs.Ops.{word_of_two, word_of_one}
-
--- the numbers that are a list's elements
-abbrev pub numbers_in : Value → List ℤ
-numbers_in v = map number (elements v)
-
--- the value is the list of its numbers
-abbrev pub AreNumbers : Value → Type 0
-AreNumbers v = v ≡ list_of (map Num (numbers_in v))
 
 -- what stands for the places of a list
 abbrev pub numbers_by : Shape → Value → Source

@@ -4,61 +4,37 @@ ghost use Rattle.std.specs.Prelude.{◌≡◌, true, IfOk, IsSome};
 ghost use Rattle.nxt_types.specs.Arithmetic.{compares as compares_of};
 ghost use Rattle.nxt_types.specs.OperandRules.{is_plain, are_alike};
 ghost use Rattle.nxt_model.specs.Means.Numbers.{holds as holds_of};
-ghost use Rattle.nxt_space.specs.Variables.{name_of, shape_of, value_of};
-ghost use Rattle.nxt_ops.specs.Ops.{AreOf, given, deciding_numbers};
-ghost use Rattle.nxt_ops.specs.Elements.{AreNumbers, numbers_in};
+ghost use Rattle.nxt_space.specs.Variables.{AreSound, name_of, shape_of};
+ghost use Rattle.nxt_operands.specs.Operands.{given};
+ghost use Rattle.nxt_ops.specs.Ops.{deciding_numbers};
 
-use crate::operands::{has_sign, has_signed_elements, is_number};
-use nxt_space::{Flat, Path, Space};
+use nxt_operands::operands::{has_sign, has_signed_elements, is_number};
+use nxt_operands::reading::numbers_of;
+use nxt_space::Space;
 use nxt_types::NoMemory;
 use nxt_types::kind::Cmp;
 use nxt_types::numbers::{compare, taken};
-use nxt_types::toc::Toc;
 use std::alloc::Global;
 
 /// Whether a comparison of two numbers holds, or of two lists of numbers: the first place where they differ decides, or else
 /// their lengths.
-pub fn holds(
-    alloc: Global,
-    toc: &Toc,
-    space: &Space,
-    cmp: Cmp,
-    x: u16,
-    y: u16,
-) -> Result<bool, NoMemory>
-    requires of { AreOf toc.now space.now }
+pub fn holds(alloc: Global, space: &Space, cmp: Cmp, x: u16, y: u16) -> Result<bool, NoMemory>
+    requires sound { AreSound space.now }
     requires x { IsSome (name_of space.now x) }
     requires y { IsSome (name_of space.now y) }
     requires plain { is_plain (shape_of space.now x) ≡ true }
     requires fit { are_alike (shape_of space.now x) (shape_of space.now y) ≡ true }
     ensures { IfOk result (λ b. b ≡ holds_of cmp (given space.now x) (given space.now y)) }
 {
-    if is_number(toc, x) {
-        let signed = has_sign(toc, x) || has_sign(toc, y);
+    if is_number(space, x) {
+        let signed = has_sign(space, x) || has_sign(space, y);
         return Ok(compare(cmp, signed, space.get(x), space.get(y)));
     }
-    let signed = has_signed_elements(toc, x) || has_signed_elements(toc, y);
+    let signed = has_signed_elements(space, x) || has_signed_elements(space, y);
     let xs = numbers_of(alloc, space, x)?;
     let ys = numbers_of(alloc, space, y)?;
     let (a, b) = deciding(signed, xs.as_slice(), ys.as_slice());
     Ok(compares(cmp, a, b))
-}
-
-/// The numbers of a list of numbers.
-pub fn numbers_of(alloc: Global, space: &Space, i: u16) -> Result<Flat, NoMemory>
-    requires named { IsSome (name_of space.now i) }
-    requires list { AreNumbers (value_of space.now i) }
-    ensures { IfOk result (λ zs. zs ≡ numbers_in (value_of space.now i)) }
-{
-    let mut flat = Flat::new(alloc);
-    let path = Path {
-        var: i,
-        steps: Flat::new(alloc),
-    };
-    space.gather(&path, &mut flat)?;
-    let mut numbers = Flat::new(alloc);
-    numbers.append(&flat.as_slice()[1..])?;
-    Ok(numbers)
 }
 
 // The two numbers that decide a comparison of lists.

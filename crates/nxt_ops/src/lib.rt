@@ -4,11 +4,7 @@
 
 mod comparing;
 mod lists;
-pub mod operands;
 mod operator;
 pub mod run;
 
 pub use run::{Next, run_op, runs};
-
-#[cfg(test)]
-mod tests;

@@ -6,17 +6,19 @@ ghost use Rattle.nxt_types.specs.Shapes.{is_number as is_number_shape};
 ghost use Rattle.nxt_model.specs.Means.Effects.{element};
 ghost use Rattle.nxt_model.specs.Means.Numbers.{either_signed};
 ghost use Rattle.nxt_model.specs.Values.{stored};
-ghost use Rattle.nxt_space.specs.Variables.{name_of, shape_of, value_of, with_value};
+ghost use Rattle.nxt_space.specs.Variables.{AreSound, name_of, shape_of, value_of, with_value};
 ghost use Rattle.nxt_space.specs.Outcomes.{Does};
-ghost use Rattle.nxt_ops.specs.Ops.{AreOf, AllTrue, Done, given, shape_in, value_of_two, value_of_one, asked_of_two};
-ghost use Rattle.nxt_ops.specs.Elements.{AreNumbers, numbers_in, place_number, pairs_of, words_of_pairs, words_of_each, numbers_by};
+ghost use Rattle.nxt_operands.specs.Numbers.{AreNumbers, numbers_in};
+ghost use Rattle.nxt_operands.specs.Operands.{AllTrue, Done, given};
+ghost use Rattle.nxt_ops.specs.Ops.{value_of_two, value_of_one, asked_of_two};
+ghost use Rattle.nxt_ops.specs.Elements.{place_number, pairs_of, words_of_pairs, words_of_each, numbers_by};
 
-use crate::comparing::numbers_of;
-use crate::operands::{has_signed_elements, is_number};
 use crate::operator::{One, Two};
+use nxt_operands::operands::{has_signed_elements, is_number};
+use nxt_operands::reading::numbers_of;
+use nxt_operands::storing::store;
 use nxt_space::{Flat, OpFault, Space};
 use nxt_types::NoMemory;
-use nxt_types::toc::Toc;
 use std::alloc::Global;
 
 /// What stands for the places of a list: the elements of a list, or one number for all of them.
@@ -30,13 +32,12 @@ pub enum Source {
 pub fn combine_lists(
     alloc: Global,
     operator: Two,
-    toc: &Toc,
     space: &mut Space,
     dest: u16,
     x: u16,
     y: u16,
 ) -> Result<(), OpFault>
-    requires of { AreOf toc.now space.old }
+    requires sound { AreSound space.old }
     requires dest { IsSome (name_of space.old dest) }
     requires x { IsSome (name_of space.old x) }
     requires y { IsSome (name_of space.old y) }
@@ -44,27 +45,20 @@ pub fn combine_lists(
     requires fit { AllTrue (asked_of_two operator (shape_of space.old dest) (shape_of space.old x) (shape_of space.old y)) }
     ensures { Does Done (with_value space.old dest (stored (shape_of space.old dest) (value_of_two operator (shape_of space.old dest) (given space.old x) (given space.old y)))) space.old result space.new }
 {
-    let signed = either_has_signed_elements(toc, x, y);
-    let flat = match words_of(alloc, operator, signed, toc, space, x, y) {
-        Ok(flat) => flat,
-        Err(_) => return Err(OpFault::NoMemory),
-    };
-    match space.store(dest, &flat) {
-        Ok(()) => Ok(()),
-        Err(passed) => Err(OpFault::PoolPassed(passed.0)),
-    }
+    let signed = either_has_signed_elements(space, x, y);
+    let flat = words_of(alloc, operator, signed, space, x, y)?;
+    store(space, dest, &flat)
 }
 
 /// Stores what an operator gives for each number of a list.
 pub fn map_list(
     alloc: Global,
     operator: One,
-    toc: &Toc,
     space: &mut Space,
     dest: u16,
     x: u16,
 ) -> Result<(), OpFault>
-    requires of { AreOf toc.now space.old }
+    requires sound { AreSound space.old }
     requires dest { IsSome (name_of space.old dest) }
     requires x { IsSome (name_of space.old x) }
     requires list { is_number_shape (shape_of space.old dest) ≡ false }
@@ -72,22 +66,16 @@ pub fn map_list(
     requires fit { are_alike (shape_of space.old dest) (shape_of space.old x) ≡ true }
     ensures { Does Done (with_value space.old dest (stored (shape_of space.old dest) (value_of_one operator (shape_of space.old dest) (given space.old x)))) space.old result space.new }
 {
-    let signed = has_signed_elements(toc, x);
-    let flat = match mapped(alloc, operator, signed, space, x) {
-        Ok(flat) => flat,
-        Err(_) => return Err(OpFault::NoMemory),
-    };
-    match space.store(dest, &flat) {
-        Ok(()) => Ok(()),
-        Err(passed) => Err(OpFault::PoolPassed(passed.0)),
-    }
+    let signed = has_signed_elements(space, x);
+    let flat = mapped(alloc, operator, signed, space, x)?;
+    store(space, dest, &flat)
 }
 
 // Whether the elements of one of two values, or it itself, are numbers of a signed kind.
-fn either_has_signed_elements(toc: &Toc, x: u16, y: u16) -> bool
-    ensures { result ≡ either_signed (element (shape_in toc.now x)) (element (shape_in toc.now y)) }
+fn either_has_signed_elements(space: &Space, x: u16, y: u16) -> bool
+    ensures { result ≡ either_signed (element (shape_of space.now x)) (element (shape_of space.now y)) }
 {
-    has_signed_elements(toc, x) || has_signed_elements(toc, y)
+    has_signed_elements(space, x) || has_signed_elements(space, y)
 }
 
 // The flat form of the list of words that an operator gives for two values.
@@ -95,31 +83,30 @@ fn words_of(
     alloc: Global,
     operator: Two,
     signed: bool,
-    toc: &Toc,
     space: &Space,
     x: u16,
     y: u16,
 ) -> Result<Flat, NoMemory>
-    requires of { AreOf toc.now space.now }
+    requires sound { AreSound space.now }
     requires x { IsSome (name_of space.now x) }
     requires y { IsSome (name_of space.now y) }
     requires plain_x { is_plain (shape_of space.now x) ≡ true }
     requires plain_y { is_plain (shape_of space.now y) ≡ true }
     ensures { IfOk result (λ flat. flat ≡ words_of_pairs operator signed (pairs_of (numbers_by (shape_of space.now x) (value_of space.now x)) (numbers_by (shape_of space.now y) (value_of space.now y)))) }
 {
-    let xs = source_of(alloc, toc, space, x)?;
-    let ys = source_of(alloc, toc, space, y)?;
+    let xs = source_of(alloc, space, x)?;
+    let ys = source_of(alloc, space, y)?;
     combined(alloc, operator, signed, &xs, &ys)
 }
 
 // The numbers of a number or of a list of numbers.
-fn source_of(alloc: Global, toc: &Toc, space: &Space, i: u16) -> Result<Source, NoMemory>
-    requires of { AreOf toc.now space.now }
+fn source_of(alloc: Global, space: &Space, i: u16) -> Result<Source, NoMemory>
+    requires sound { AreSound space.now }
     requires named { IsSome (name_of space.now i) }
     requires plain { is_plain (shape_of space.now i) ≡ true }
     ensures { IfOk result (λ s. s ≡ numbers_by (shape_of space.now i) (value_of space.now i)) }
 {
-    if is_number(toc, i) {
+    if is_number(space, i) {
         Ok(Source::All(space.get(i)))
     } else {
         Ok(Source::Each(numbers_of(alloc, space, i)?))

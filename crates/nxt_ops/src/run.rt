@@ -1,22 +1,23 @@
 // Statements that compute with variables, or jump.
 
-ghost use Rattle.std.specs.Prelude.{◌≡◌, true, OnOk, IfOk, IsSome};
-ghost use Rattle.std.specs.Int.{cast_signed, w16};
-ghost use Rattle.nxt_types.specs.OperandRules.{is_plain, are_alike};
+ghost use Rattle.std.specs.Prelude.{◌≡◌, true, IsSome};
+ghost use Rattle.nxt_types.specs.OperandRules.{AreFit, is_plain, are_alike};
 ghost use Rattle.nxt_types.specs.Shapes.{convertible};
 ghost use Rattle.nxt_model.specs.Devices.{Devices};
 ghost use Rattle.nxt_model.specs.SystemCalls.{Clock};
 ghost use Rattle.nxt_model.specs.Values.{stored};
-ghost use Rattle.nxt_space.specs.Variables.{name_of, shape_of, value_of, with_value};
+ghost use Rattle.nxt_space.specs.Variables.{AreSound, name_of, shape_of, value_of, with_value};
 ghost use Rattle.nxt_space.specs.Outcomes.{Does};
-ghost use Rattle.nxt_ops.specs.Ops.{CanRun, AreOf, AllTrue, Done, given, next_of, effect_in, values_after, value_of_two, value_of_one, asked_of_two, stores, runs as does_run, two_of as operator_on_two, one_of as operator_on_one};
+ghost use Rattle.nxt_operands.specs.Operands.{AllTrue, Done, given};
+ghost use Rattle.nxt_ops.specs.Ops.{CanRun, statement_in, next_of, effect_in, values_after, value_of_two, value_of_one, asked_of_two, stores, runs as does_run, two_of as operator_on_two, one_of as operator_on_one};
 
 use crate::comparing::holds;
 use crate::lists::{combine_lists, map_list};
-use crate::operands::{has_sign, is_number};
 use crate::operator::{One, Two};
-use nxt_space::{Flat, OpFault, Path, Space};
-use nxt_types::NoMemory;
+use nxt_operands::operands::{has_sign, is_number};
+use nxt_operands::reading::flat_of;
+use nxt_operands::storing::store;
+use nxt_space::{OpFault, Space};
 use nxt_types::instr::{Instr, Op};
 use nxt_types::kind::{Arith, Cmp};
 use nxt_types::numbers::compare;
@@ -64,15 +65,12 @@ pub fn run_op(alloc: Global, i: &Instr, toc: &Toc, space: &mut Space) -> Result<
 {
     match i.op {
         Op::Jmp => Ok(going_on(i, true)),
-        Op::Brcmp => match holds(alloc, toc, space, i.cmp, i.b, i.c) {
-            Ok(jumps) => Ok(going_on(i, jumps)),
-            Err(_) => Err(OpFault::NoMemory),
-        },
-        Op::Brtst => Ok(going_on(i, compare(i.cmp, has_sign(toc, i.b), space.get(i.b), 0))),
-        _ => match compute(alloc, i, toc, space) {
-            Ok(()) => Ok(Next::Fall),
-            Err(fault) => Err(fault),
-        },
+        Op::Brcmp => Ok(going_on(i, holds(alloc, space, i.cmp, i.b, i.c)?)),
+        Op::Brtst => Ok(going_on(i, compare(i.cmp, has_sign(space, i.b), space.get(i.b), 0))),
+        _ => {
+            compute(alloc, i, space)?;
+            Ok(Next::Fall)
+        }
     }
 }
 
@@ -81,38 +79,28 @@ fn going_on(i: &Instr, jumps: bool) -> Next
     ensures { result ≡ next_of i.now jumps }
 {
     if jumps {
-        Next::Jump(signed(i.a))
+        Next::Jump(i.offset())
     } else {
         Next::Fall
     }
 }
 
-// A word read as a signed number.
-fn signed(word: u16) -> i32
-    ensures { result ≡ cast_signed w16 word }
-{
-    let number = i32::from(word);
-    if number < 0x8000 {
-        number
-    } else {
-        number - 0x1_0000
-    }
-}
-
 // Runs a statement that stores a value.
-fn compute(alloc: Global, i: &Instr, toc: &Toc, space: &mut Space) -> Result<(), OpFault>
-    requires run { CanRun i.now toc.now space.old }
+fn compute(alloc: Global, i: &Instr, space: &mut Space) -> Result<(), OpFault>
+    requires runs { does_run i.now.op ≡ true }
     requires stores { stores i.now.op ≡ true }
+    requires sound { AreSound space.old }
+    requires fit { AreFit space.old.shapes (statement_in i.now) }
     ensures { (d : Devices) (t : Clock) → Does Done (values_after space.old i.now d t) space.old result space.new }
 {
     if let Some(operator) = two_of(i.op, i.cmp) {
-        return combine(alloc, operator, toc, space, i.a, i.b, i.c);
+        return combine(alloc, operator, space, i.a, i.b, i.c);
     }
     if let Some(operator) = one_of(i.op, i.cmp) {
-        return change(alloc, operator, toc, space, i.a, i.b);
+        return change(alloc, operator, space, i.a, i.b);
     }
     if i.op == Op::Mov {
-        return copy(alloc, toc, space, i.a, i.b);
+        return copy(alloc, space, i.a, i.b);
     }
     space.set(i.a, i64::from(i.b));
     Ok(())
@@ -152,29 +140,25 @@ fn one_of(op: Op, cmp: Cmp) -> Option<One>
 fn combine(
     alloc: Global,
     operator: Two,
-    toc: &Toc,
     space: &mut Space,
     dest: u16,
     x: u16,
     y: u16,
 ) -> Result<(), OpFault>
-    requires of { AreOf toc.now space.old }
+    requires sound { AreSound space.old }
     requires dest { IsSome (name_of space.old dest) }
     requires x { IsSome (name_of space.old x) }
     requires y { IsSome (name_of space.old y) }
     requires fit { AllTrue (asked_of_two operator (shape_of space.old dest) (shape_of space.old x) (shape_of space.old y)) }
     ensures { Does Done (with_value space.old dest (stored (shape_of space.old dest) (value_of_two operator (shape_of space.old dest) (given space.old x) (given space.old y)))) space.old result space.new }
 {
-    if !is_number(toc, dest) {
-        return combine_lists(alloc, operator, toc, space, dest, x, y);
+    if !is_number(space, dest) {
+        return combine_lists(alloc, operator, space, dest, x, y);
     }
     let word = match operator {
-        Two::Compare(cmp) => match holds(alloc, toc, space, cmp, x, y) {
-            Ok(holds) => u32::from(holds),
-            Err(_) => return Err(OpFault::NoMemory),
-        },
+        Two::Compare(cmp) => u32::from(holds(alloc, space, cmp, x, y)?),
         Two::Calculate(_) => {
-            let signed = has_sign(toc, x) || has_sign(toc, y);
+            let signed = has_sign(space, x) || has_sign(space, y);
             operator.word(signed, space.get(x), space.get(y))
         }
     };
@@ -183,52 +167,34 @@ fn combine(
 }
 
 // Stores what an operator gives for one value.
-fn change(
-    alloc: Global,
-    operator: One,
-    toc: &Toc,
-    space: &mut Space,
-    dest: u16,
-    x: u16,
-) -> Result<(), OpFault>
-    requires of { AreOf toc.now space.old }
+fn change(alloc: Global, operator: One, space: &mut Space, dest: u16, x: u16) -> Result<(), OpFault>
+    requires sound { AreSound space.old }
     requires dest { IsSome (name_of space.old dest) }
     requires x { IsSome (name_of space.old x) }
     requires plain { is_plain (shape_of space.old dest) ≡ true }
     requires fit { are_alike (shape_of space.old dest) (shape_of space.old x) ≡ true }
     ensures { Does Done (with_value space.old dest (stored (shape_of space.old dest) (value_of_one operator (shape_of space.old dest) (given space.old x)))) space.old result space.new }
 {
-    if !is_number(toc, dest) {
-        return map_list(alloc, operator, toc, space, dest, x);
+    if !is_number(space, dest) {
+        return map_list(alloc, operator, space, dest, x);
     }
-    let word = operator.word(has_sign(toc, x), space.get(x));
+    let word = operator.word(has_sign(space, x), space.get(x));
     space.set(dest, i64::from(word));
     Ok(())
 }
 
 // Stores a value in a variable of its own.
-fn copy(alloc: Global, toc: &Toc, space: &mut Space, dest: u16, source: u16) -> Result<(), OpFault>
-    requires of { AreOf toc.now space.old }
+fn copy(alloc: Global, space: &mut Space, dest: u16, source: u16) -> Result<(), OpFault>
+    requires sound { AreSound space.old }
     requires dest { IsSome (name_of space.old dest) }
     requires source { IsSome (name_of space.old source) }
     requires fit { convertible (shape_of space.old dest) (shape_of space.old source) ≡ true }
     ensures { Does Done (with_value space.old dest (stored (shape_of space.old dest) (value_of space.old source))) space.old result space.new }
 {
-    if is_number(toc, dest) {
+    if is_number(space, dest) {
         space.set(dest, space.get(source));
         return Ok(());
     }
-    let mut flat = Flat::new(alloc);
-    let path = Path {
-        var: source,
-        steps: Flat::new(alloc),
-    };
-    match space.gather(&path, &mut flat) {
-        Ok(()) => {}
-        Err(_) => return Err(OpFault::NoMemory),
-    }
-    match space.store(dest, &flat) {
-        Ok(()) => Ok(()),
-        Err(passed) => Err(OpFault::PoolPassed(passed.0)),
-    }
+    let flat = flat_of(alloc, space, source)?;
+    store(space, dest, &flat)
 }

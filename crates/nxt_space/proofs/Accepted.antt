@@ -9,7 +9,7 @@ use Rattle.nxt_types.specs.declared.kind.Kind.{Kind}
 use Rattle.nxt_types.specs.declared.kind.Kind.TheVariants.{Ubyte, Sbyte, Uword, Sword, Ulong, Slong}
 use Rattle.nxt_types.specs.declared.shape.TocEntry.{TocEntry}
 use Rattle.nxt_rxe.specs.declared.parts.Parts.{Parts}
-use Rattle.nxt_model.specs.Footprint.{pool_size, round4}
+use Rattle.nxt_types.specs.Pool.{pool_size, round4}
 use Rattle.nxt_layout.specs.declared.fault.LayoutFault.TheVariants.{Place, Overlap, RowIndex, RowShared, Stride, RowPlace, RowOverlap, PoolPassed}
 use Rattle.nxt_layout.specs.Leaves.{Site, sites_in, sites_among, is_void, AreShapes, Leaf, leaves, leaf_of, end_of, is_outside, are_together, stands_in, extent}
 use Rattle.nxt_layout.specs.LayoutRules.{Broken, is_misplaced, share_a_byte}

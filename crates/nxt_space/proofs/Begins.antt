@@ -11,7 +11,8 @@ use Rattle.nxt_types.specs.declared.shape.Shape as seen
 use Rattle.nxt_types.specs.Tables.{Table}
 use Rattle.nxt_rxe.specs.declared.parts.Parts.{Parts}
 use Rattle.nxt_model.specs.Values.{Value, GroupOf, values, items, elements, flats, is_of, are_of, lists_in}
-use Rattle.nxt_model.specs.Footprint.{footprint, rows_for, round4, pool_size}
+use Rattle.nxt_model.specs.Footprint.{footprint, rows_for}
+use Rattle.nxt_types.specs.Pool.{round4, pool_size}
 use Rattle.nxt_model.specs.Reading.{Memory, HeldList, EachReads, RowReads, Reads, MembersRead, ReadsAs, leaf_place, row_count, u16_in}
 use Rattle.nxt_model.proofs.ValueLemmas.{items-values}
 use Rattle.nxt_layout.specs.declared.fault.LayoutFault.TheVariants.{RowZero, PoolPassed}

@@ -7,7 +7,8 @@ use Rattle.nxt_types.specs.Shapes.{Shape, Array, Cluster, Members, member}
 use Rattle.nxt_types.specs.Names.{sizes}
 use Rattle.nxt_types.specs.declared.shape.TocEntry.{TocEntry}
 use Rattle.nxt_model.specs.Values.{Value, Values, ListOf, value, values, items, list_of, many, lists_among}
-use Rattle.nxt_model.specs.Footprint.{round4, list_bytes, member_bytes}
+use Rattle.nxt_model.specs.Footprint.{list_bytes, member_bytes}
+use Rattle.nxt_types.specs.Pool.{round4}
 use Rattle.nxt_model.specs.Reading.{u16_in}
 use Rattle.nxt_model.proofs.ValueLemmas.{items-values}
 use Rattle.nxt_layout.specs.Rows.{places_from}

@@ -2,7 +2,7 @@
 use Rattle.std.proofs.Common.{◌≡◌, ◌≤◌, length, sym, ap, subst, arith}
 use Rattle.nxt_types.specs.Shapes.{Shape}
 use Rattle.nxt_types.specs.declared.shape.TocEntry.{TocEntry}
-use Rattle.nxt_model.specs.Footprint.{pool_size}
+use Rattle.nxt_types.specs.Pool.{pool_size}
 use Rattle.std.specs.Prelude.{List}
 use Rattle.nxt_heap.specs.Lists.{Lists, footprint}
 use Rattle.nxt_space.specs.Homes.{bytes_in, IsHome, HoldsThere}

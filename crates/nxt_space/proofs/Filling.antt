@@ -6,7 +6,8 @@ use Rattle.nxt_types.specs.Shapes.{Shape, Void, Number, Array, Cluster, Mutex, M
 use Rattle.nxt_types.specs.Names.{size}
 use Rattle.nxt_types.specs.declared.shape.TocEntry.{TocEntry}
 use Rattle.nxt_model.specs.Values.{ListOf, Front, value, values, items, list_of, many, lists_in, lists_among}
-use Rattle.nxt_model.specs.Footprint.{round4, list_bytes, member_bytes}
+use Rattle.nxt_model.specs.Footprint.{list_bytes, member_bytes}
+use Rattle.nxt_types.specs.Pool.{round4}
 use Rattle.nxt_layout.specs.Rows.{places_from}
 use Rattle.nxt_layout.proofs.Each.{Each, each_then, each_both, each_apart, each_join}
 use Rattle.nxt_heap.specs.Lists.{Lists, list_at, bytes_at, stride_at, IsAlive}

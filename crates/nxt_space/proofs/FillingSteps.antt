@@ -8,7 +8,8 @@ use Rattle.nxt_types.specs.Shapes.{Shape, Void, Number, Array, Cluster, Mutex, M
 use Rattle.nxt_types.specs.Names.{size, sizes}
 use Rattle.nxt_types.specs.declared.kind.Kind.{Kind}
 use Rattle.nxt_types.specs.declared.shape.TocEntry.{TocEntry}
-use Rattle.nxt_model.specs.Footprint.{pool_size, round4, list_bytes, member_bytes}
+use Rattle.nxt_model.specs.Footprint.{list_bytes, member_bytes}
+use Rattle.nxt_types.specs.Pool.{pool_size, round4}
 use Rattle.nxt_model.specs.Means.Text.{number_in}
 use Rattle.nxt_model.specs.Values.{Num, ListOf, GroupOf, items, many, lists_in, lists_among}
 use Rattle.nxt_heap.specs.Lists.{Lists, bytes_at, IsAlive, footprint}

@@ -3,7 +3,7 @@ use Rattle.std.proofs.Common.{◌≡◌, ℕ, zero, suc, ◌+◌, ◌-◌, ◌*�
 use Rattle.std.proofs.lemmas.List.Concat.{flat_map-append}
 use Rattle.nxt_types.specs.Shapes.{Shape, Array}
 use Rattle.nxt_types.specs.declared.shape.TocEntry.{TocEntry}
-use Rattle.nxt_model.specs.Footprint.{pool_size}
+use Rattle.nxt_types.specs.Pool.{pool_size}
 use Rattle.nxt_model.specs.Reading.{u16_in}
 use Rattle.nxt_layout.specs.Rows.{places_from}
 use Rattle.nxt_layout.proofs.Each.{Each, each_then, each_apart}

@@ -10,7 +10,7 @@ use Rattle.nxt_types.specs.Shapes.{Shape, Array, Members}
 use Rattle.nxt_types.specs.Names.{sizes}
 use Rattle.nxt_types.specs.declared.shape.TocEntry.{TocEntry}
 use Rattle.nxt_model.specs.Values.{Value, values, list_of, flat, flats}
-use Rattle.nxt_model.specs.Footprint.{pool_size}
+use Rattle.nxt_types.specs.Pool.{pool_size}
 use Rattle.nxt_model.specs.Reading.{u16_in}
 use Rattle.nxt_model.proofs.ValueLemmas.{items-values}
 use Rattle.nxt_layout.specs.Rows.{places_from}

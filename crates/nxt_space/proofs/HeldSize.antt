@@ -9,7 +9,8 @@ use Rattle.nxt_types.specs.Shapes.{Shape, Void, Number, Array, Cluster, Mutex, M
 use Rattle.nxt_types.specs.Names.{size}
 use Rattle.nxt_types.specs.declared.shape.TocEntry.{TocEntry}
 use Rattle.nxt_model.specs.Values.{Value, values, items, lists_in, lists_among as lists_within}
-use Rattle.nxt_model.specs.Footprint.{round4, list_bytes, member_bytes, footprint as variables_footprint}
+use Rattle.nxt_model.specs.Footprint.{list_bytes, member_bytes, footprint as variables_footprint}
+use Rattle.nxt_types.specs.Pool.{round4}
 use Rattle.nxt_model.proofs.ValueLemmas.{items-values}
 use Rattle.nxt_layout.specs.Rows.{places_from}
 use Rattle.nxt_layout.specs.RowPasses.{sum_below}

@@ -3,7 +3,7 @@ use Rattle.std.proofs.Common.{◌≡◌, ℕ, ◌+◌, ◌≤◌, List, [], ◌+
 use Rattle.nxt_types.specs.Shapes.{Shape, Members, no_members, member}
 use Rattle.nxt_types.specs.Names.{size, sizes}
 use Rattle.nxt_types.specs.declared.shape.TocEntry.{TocEntry}
-use Rattle.nxt_model.specs.Footprint.{pool_size}
+use Rattle.nxt_types.specs.Pool.{pool_size}
 use Rattle.nxt_layout.proofs.Each.{Each}
 use Rattle.nxt_heap.specs.Lists.{Lists, IsAlive, footprint}
 use Rattle.nxt_space.specs.Homes.{bytes_in, IsHome}

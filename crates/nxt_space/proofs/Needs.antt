@@ -4,7 +4,7 @@ use Rattle.std.specs.List.{list_any}
 use Rattle.std.proofs.Math.Nat.{le-max_left, le-max_right, max-le}
 use Rattle.std.proofs.lemmas.List.{length-set}
 use Rattle.std.proofs.lemmas.List.Sums.{sum_by-cons, sum_by-append, sum_by-set}
-use Rattle.nxt_model.specs.Footprint.{round4, pool_size}
+use Rattle.nxt_types.specs.Pool.{round4, pool_size}
 use Rattle.nxt_heap.specs.Lists.{Lists, ByteList, list_at, stride_at, block_of, with_free, with_free_row, any_free, of_length, IsFree, Passes, footprint}
 use Rattle.nxt_heap.proofs.OfLength.{length-of_length}
 use Rattle.nxt_space.specs.Homes.{bytes_in, IsHome}

@@ -5,7 +5,7 @@ use Rattle.std.specs.List.{list_any}
 use Rattle.std.proofs.lemmas.Bool.{cases_eq}
 use Rattle.std.proofs.lemmas.List.{get_or-set_same, get_or-set_other}
 use Rattle.nxt_types.specs.declared.shape.TocEntry.{TocEntry}
-use Rattle.nxt_model.specs.Footprint.{round4}
+use Rattle.nxt_types.specs.Pool.{round4}
 use Rattle.nxt_model.specs.Reading.{u16_in}
 use Rattle.nxt_layout.proofs.Each.{Each}
 use Rattle.nxt_heap.specs.Lists.{Lists, list_at, stride_at, bytes_of, stride_of, block_of, with_list, with_length, with_free_row, empty_list, of_length, IsFree, IsAlive, footprint}

@@ -5,7 +5,8 @@ use Rattle.nxt_types.specs.Names.{Name, name_among}
 use Rattle.nxt_types.specs.Shapes.{Shape, Void, Number, Array, Cluster, Mutex, no_members, member}
 use Rattle.nxt_types.specs.Tables.{Table}
 use Rattle.nxt_model.specs.Values.{Value, Num, lists_in}
-use Rattle.nxt_model.specs.Footprint.{round4, list_bytes, pool_size}
+use Rattle.nxt_model.specs.Footprint.{list_bytes}
+use Rattle.nxt_types.specs.Pool.{round4, pool_size}
 use Rattle.nxt_heap.specs.Lists.{Lists, block_of}
 use Rattle.nxt_space.specs.Kept.{Stand, IsVariable, values_of, shape_in, value_in}
 use Rattle.nxt_space.specs.Held.{value_at}

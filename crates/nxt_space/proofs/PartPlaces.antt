@@ -8,7 +8,7 @@ use Rattle.nxt_types.specs.declared.shape.Shape as seen
 use Rattle.nxt_types.specs.Names.{size}
 use Rattle.nxt_types.specs.declared.shape.TocEntry.{TocEntry}
 use Rattle.nxt_model.specs.Values.{Value, Num, elements, part}
-use Rattle.nxt_model.specs.Footprint.{pool_size}
+use Rattle.nxt_types.specs.Pool.{pool_size}
 use Rattle.nxt_model.specs.Reading.{u16_in}
 use Rattle.nxt_model.proofs.ValueLemmas.{items-values}
 use Rattle.nxt_layout.specs.Rows.{places_from}

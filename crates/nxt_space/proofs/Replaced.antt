@@ -7,7 +7,8 @@ use Rattle.nxt_types.specs.Shapes.{Shape, Cluster}
 use Rattle.nxt_types.specs.Tables.{Table}
 use Rattle.nxt_types.specs.declared.shape.TocEntry.{TocEntry}
 use Rattle.nxt_model.specs.Values.{part, with_part, lists_in}
-use Rattle.nxt_model.specs.Footprint.{round4, list_bytes, pool_size}
+use Rattle.nxt_model.specs.Footprint.{list_bytes}
+use Rattle.nxt_types.specs.Pool.{round4, pool_size}
 use Rattle.nxt_heap.specs.Lists.{Lists, list_at, block_of, with_list, footprint}
 use Rattle.nxt_space.specs.Held.{rows_at, Holds}
 use Rattle.nxt_space.specs.Kept.{Stand, Stores, values_of, with_stored, bytes_with}

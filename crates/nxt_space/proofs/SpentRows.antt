@@ -7,7 +7,7 @@ use Rattle.std.proofs.lemmas.List.Sums.{sum_by-cons, sum_by-set}
 use Rattle.nxt_types.specs.Shapes.{Members}
 use Rattle.nxt_types.specs.declared.shape.TocEntry.{TocEntry}
 use Rattle.nxt_model.specs.Values.{lists_in}
-use Rattle.nxt_model.specs.Footprint.{round4}
+use Rattle.nxt_types.specs.Pool.{round4}
 use Rattle.nxt_layout.proofs.Each.{Each, each_then, each_both}
 use Rattle.nxt_layout.proofs.Totals.{is_it}
 use Rattle.nxt_layout.proofs.SumsBelow.{sums_same}

@@ -5,7 +5,8 @@ use Rattle.nxt_types.specs.Names.{sizes}
 use Rattle.nxt_types.specs.Shapes.{Members}
 use Rattle.nxt_types.specs.Tables.{Table}
 use Rattle.nxt_model.specs.Values.{lists_in, lists_among, items}
-use Rattle.nxt_model.specs.Footprint.{round4, member_bytes, pool_size}
+use Rattle.nxt_model.specs.Footprint.{member_bytes}
+use Rattle.nxt_types.specs.Pool.{round4, pool_size}
 use Rattle.nxt_layout.proofs.StrideFree.{size_of_table}
 use Rattle.nxt_heap.specs.Lists.{Lists, list_at, footprint, IsAlive}
 use Rattle.nxt_space.specs.Spots.{HasSpots}

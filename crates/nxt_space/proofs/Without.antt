@@ -4,7 +4,7 @@ use Rattle.std.proofs.lemmas.List.{get_or-set_other, set_comm}
 use Rattle.std.proofs.lemmas.List.Sums.{sum_by-cons}
 use Rattle.nxt_types.specs.Shapes.{Shape}
 use Rattle.nxt_types.specs.declared.shape.TocEntry.{TocEntry}
-use Rattle.nxt_model.specs.Footprint.{round4}
+use Rattle.nxt_types.specs.Pool.{round4}
 use Rattle.nxt_layout.proofs.Each.{Each, each_then, each_both}
 use Rattle.nxt_heap.specs.Lists.{Lists, ByteList, list_at, bytes_of, block_of, with_list, IsAlive, footprint}
 use Rattle.nxt_heap.proofs.Changes.{footprint-with_list}

@@ -6,7 +6,8 @@ use Rattle.nxt_types.specs.Arithmetic.{cut}
 use Rattle.nxt_types.specs.Shapes.{Shape, Void, Number, Array, Cluster, Mutex, Members, no_members, member}
 use Rattle.nxt_types.specs.declared.shape.TocEntry.{TocEntry}
 use Rattle.nxt_model.specs.Values.{Num, ListOf, GroupOf, Values, no_more, value, values, items, Front, many, lists_in, lists_among}
-use Rattle.nxt_model.specs.Footprint.{round4, list_bytes, member_bytes}
+use Rattle.nxt_model.specs.Footprint.{list_bytes, member_bytes}
+use Rattle.nxt_types.specs.Pool.{round4}
 use Rattle.nxt_heap.specs.Lists.{Lists, list_at, stride_at, IsAlive, block_of, with_list, with_free, with_free_row, of_length, IsFree}
 use Rattle.nxt_space.specs.Held.{value_at, values_among, rows_at, rows_among, Holds, HoldAll}
 use Rattle.nxt_space.specs.Homes.{bytes_in, IsHome}

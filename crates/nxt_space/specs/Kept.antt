@@ -4,7 +4,8 @@ use Rattle.nxt_types.specs.Names.{name_among, size}
 use Rattle.nxt_types.specs.Shapes.{Shape, Members, SpellsAll}
 use Rattle.nxt_types.specs.Tables.{Table}
 use Rattle.nxt_model.specs.Values.{Value, GroupOf, lists_in}
-use Rattle.nxt_model.specs.Footprint.{footprint, round4, pool_size}
+use Rattle.nxt_model.specs.Footprint.{footprint}
+use Rattle.nxt_types.specs.Pool.{round4, pool_size}
 use Rattle.nxt_heap.specs.Lists.{Lists, list_at, IsAlive}
 use Rattle.nxt_heap.specs.Lists as heap
 use Rattle.nxt_space.specs.Held.{values_in, IsHeld}

@@ -8,7 +8,8 @@ use Rattle.nxt_types.specs.Names.{Name, name_among, sizes}
 use Rattle.nxt_types.specs.declared.shape.TocEntry.{TocEntry}
 use Rattle.nxt_model.specs.Values.{Value, Num, list_of, elements, part, with_part, is_of, lists_in}
 use Rattle.nxt_model.specs.Reading.{HeldList, ReadsAs}
-use Rattle.nxt_model.specs.Footprint.{footprint, rows_for, round4, list_bytes, pool_size}
+use Rattle.nxt_model.specs.Footprint.{footprint, rows_for, list_bytes}
+use Rattle.nxt_types.specs.Pool.{round4, pool_size}
 use Rattle.nxt_heap.specs.declared.passed.PoolPassed.{PoolPassed}
 use Rattle.nxt_layout.specs.Layouts.{FileLayout}
 use Rattle.nxt_space.specs.declared.path.Path.{Path}

@@ -5,7 +5,7 @@ ghost use Rattle.nxt_types.specs.Shapes.{Array, Number, tree, members};
 ghost use Rattle.nxt_types.specs.Names.{size, sizes, name_among};
 ghost use Rattle.nxt_types.specs.declared.kind.Kind.TheVariants.{Ubyte};
 ghost use Rattle.nxt_model.specs.Values.{lists_in, part as parts_value, number, elements};
-ghost use Rattle.nxt_model.specs.Footprint.{pool_size, round4 as rounded};
+ghost use Rattle.nxt_types.specs.Pool.{pool_size};
 ghost use Rattle.nxt_heap.specs.Lists.{footprint, block_of};
 ghost use Rattle.nxt_space.specs.Homes.{IsHome, HoldsThere, value_there};
 ghost use Rattle.nxt_space.specs.Writes.{emptied, rows_there, AreOwn};
@@ -21,18 +21,13 @@ use crate::writing::{fill_members, store};
 use nxt_heap::{Heap, PoolPassed};
 use nxt_types::NoMemory;
 use nxt_types::lists::Nums;
+use nxt_types::pool::{POOL_BYTES, ROW_BYTES, round4};
 use nxt_types::shape::{Shape, TocEntry};
 use nxt_types::toc::{Toc, copy_of};
 use std::alloc::Global;
 
 /// A value's numbers in reading order, and before the elements of each list that list's length.
 pub type Flat = Nums;
-
-/// The bytes of the pool.
-const POOL_BYTES: u64 = 32_768;
-
-/// The bytes of a row of the table.
-const ROW_BYTES: u64 = 10;
 
 /// The shapes of a table's variables.
 pub fn variables_of(alloc: Global, toc: &Toc) -> Result<Vec<Shape>, NoMemory>
@@ -197,21 +192,12 @@ pub fn fits(heap: &Heap, lists: u64, old: Size, new: Size) -> Result<(), PoolPas
     }
 }
 
-fn round4(bytes: u64) -> u64
-    requires { bytes < 2 ^ 63 }
-    ensures { result ≡ rounded bytes }
-{
-    (bytes + 3) / 4 * 4
-}
-
-/// Stores the value that numbers begin with in the place of the one that begins at an entry, and gives how many rows the
-/// table of rows then has.
-pub fn replace(heap: &mut Heap, toc: &Toc, i: u16, from: &[i64]) -> u16
+/// Stores the value that numbers begin with in the place of the one that begins at an entry; the pool holds it.
+pub fn replace(heap: &mut Heap, toc: &Toc, i: u16, from: &[i64])
     requires stand { Stand toc.now heap.old }
     requires named { IsSome (name_among toc.now.shapes 0 i) }
     requires fits { bytes_with toc.now heap.old (with_stored toc.now heap.old i from.now) ≤ pool_size }
-    ensures stores { Stores toc.now heap.old heap.new (with_stored toc.now heap.old i from.now) }
-    ensures rows { result ≡ length heap.new.by_row }
+    ensures { Stores toc.now heap.old heap.new (with_stored toc.now heap.old i from.now) }
 {
     if let Some(shape) = toc.shape(i) {
         let at = Place {
@@ -221,7 +207,8 @@ pub fn replace(heap: &mut Heap, toc: &Toc, i: u16, from: &[i64]) -> u16
         };
         put(heap, toc.entries(), shape, at, from);
     }
-    heap.row_count()
+    let _rows = heap.row_count();
+    heap.is_sound();
 }
 
 // Stores the value that numbers begin with in the place of another one; the pool holds it.
@@ -236,9 +223,8 @@ fn put(heap: &mut Heap, entries: &[TocEntry], shape: &Shape, at: Place, from: &[
     ensures pool { footprint heap.new ≤ pool_size }
     ensures filled { (rest : List ℤ) × FillsThere entries.now (emptied entries.now heap.old (tree shape.now) at) heap.new (tree shape.now) at from.now rest }
 {
-    match store(heap, entries, shape, at, from) {
-        Ok(_) | Err(_) => {}
-    }
+    let stored = store(heap, entries, shape, at, from);
+    prove!(stored.is_ok());
 }
 
 /// Fills a heap without lists with the variables that numbers spell, and gives how many rows the table of rows then has.
@@ -252,8 +238,8 @@ pub fn fill_start(heap: &mut Heap, toc: &Toc, variables: &[Shape], start: &[i64]
         entry: 0,
         base: 0,
     };
-    match fill_members(heap, toc.entries(), variables, at, start) {
-        Ok(_) | Err(_) => {}
-    }
+    let filled = fill_members(heap, toc.entries(), variables, at, start);
+    prove!(filled.is_ok());
+    heap.is_sound();
     heap.row_count()
 }

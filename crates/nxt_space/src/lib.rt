@@ -16,6 +16,3 @@ pub use nxt_heap::PoolPassed;
 pub use path::Path;
 pub use sizing::{Size, spelled_size};
 pub use space::Space;
-
-#[cfg(test)]
-mod tests;

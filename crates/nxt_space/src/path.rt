@@ -1,10 +1,10 @@
 // Parts of variables.
 
-ghost use Rattle.std.specs.Prelude.{◌≡◌, ◌<◌, ◌≤◌, ◌+◌, ◌^◌, length, map, pos, slice_index_or};
+ghost use Rattle.std.specs.Prelude.{◌≡◌, ◌<◌, ◌≤◌, ◌+◌, ◌^◌, [], length, map, pos, slice_index_or};
 ghost use Rattle.nxt_types.specs.Shapes.{Array, tree};
 ghost use Rattle.nxt_types.specs.Names.{size};
 ghost use Rattle.nxt_model.specs.Values.{Num, elements, part};
-ghost use Rattle.nxt_model.specs.Footprint.{pool_size};
+ghost use Rattle.nxt_types.specs.Pool.{pool_size};
 ghost use Rattle.nxt_heap.specs.Lists.{footprint};
 ghost use Rattle.nxt_space.specs.Homes.{IsHome, HoldsThere, value_there};
 ghost use Rattle.nxt_space.specs.Variables.{positions, AreWithin};
@@ -13,6 +13,7 @@ use crate::reading::{Home, Place, leaf_place, row_at};
 use nxt_heap::Heap;
 use nxt_types::lists::Nums;
 use nxt_types::shape::{Shape, TocEntry};
+use std::alloc::Global;
 
 /// A part of a variable: the entry at which the variable, or a member of it that stands outside of all elements, begins,
 /// and the positions in lists that lead on from there, counted from 0.
@@ -20,6 +21,18 @@ use nxt_types::shape::{Shape, TocEntry};
 pub struct Path {
     pub var: u16,
     pub steps: Nums,
+}
+
+impl Path {
+    /// The whole of what begins at an entry.
+    pub fn whole(alloc: Global, var: u16) -> Path
+        ensures { result ≡ record { var = var; steps = [] } }
+    {
+        Path {
+            var,
+            steps: Nums::new(alloc),
+        }
+    }
 }
 
 // Where the part of a value stands that positions in lists lead to, and its shape.
@@ -78,6 +91,3 @@ fn element_at(
         base: k as u32 * stride,
     }
 }
-
-#[cfg(test)]
-pub mod tests;

@@ -6,7 +6,7 @@ ghost use Rattle.nxt_types.specs.Arithmetic.{leaf_size as size_of_leaf, width_of
 ghost use Rattle.nxt_types.specs.Shapes.{tree, members};
 ghost use Rattle.nxt_types.specs.Names.{size, sizes};
 ghost use Rattle.nxt_model.specs.Values.{values, flat, flats};
-ghost use Rattle.nxt_model.specs.Footprint.{pool_size};
+ghost use Rattle.nxt_types.specs.Pool.{pool_size};
 ghost use Rattle.nxt_model.specs.Means.Text.{number_in};
 ghost use Rattle.nxt_model.specs.Reading.{desc_of, u16_in};
 ghost use Rattle.nxt_heap.specs.Lists.{footprint};

@@ -3,7 +3,7 @@
 ghost use Rattle.std.specs.Prelude.{◌≡◌, ◌<◌, ◌≤◌, ◌+◌, ◌*◌, ◌^◌, length, drop, map, nat_abs};
 ghost use Rattle.nxt_types.specs.Shapes.{tree, members};
 ghost use Rattle.nxt_types.specs.Names.{size, sizes};
-ghost use Rattle.nxt_model.specs.Footprint.{pool_size, round4 as rounded};
+ghost use Rattle.nxt_types.specs.Pool.{pool_size, round4 as rounded};
 ghost use Rattle.nxt_heap.specs.Lists.{footprint};
 ghost use Rattle.nxt_space.specs.Homes.{IsHome, HoldsThere, HoldAllThere};
 ghost use Rattle.nxt_space.specs.Fills.{filled, all_filled};
@@ -12,6 +12,7 @@ ghost use Rattle.nxt_space.specs.Sizes.{IsCountable, size_of_filled, size_of_all
 use crate::reading::{Home, Place, leaf_place, row_at, size_of};
 use crate::writing::{behind, first_count};
 use nxt_heap::Heap;
+use nxt_types::pool::round4;
 use nxt_types::shape::{Shape, TocEntry};
 
 /// How many lists there are, and how many bytes of the pool they take, each list's rounded up to a multiple of 4.
@@ -43,7 +44,7 @@ impl Size {
         requires bytes { self.bytes + rounded (count * stride) < 2 ^ 64 }
         ensures { result ≡ record { lists = self.lists + 1; bytes = rounded (count * stride) + self.bytes } }
     {
-        let own = (count * u64::from(stride)).div_ceil(4) * 4;
+        let own = round4(count * u64::from(stride));
         Size {
             lists: self.lists + 1,
             bytes: own + self.bytes,
@@ -147,6 +148,3 @@ pub fn spelled_sizes<'a>(shapes: &[Shape], from: &'a [i64]) -> (Size, &'a [i64])
     }
     (sum, left)
 }
-
-#[cfg(test)]
-pub mod tests;

@@ -16,11 +16,9 @@ use nxt_types::NoMemory;
 use nxt_types::kind::Kind;
 use nxt_types::lists::Nums;
 use nxt_types::numbers::extend;
+use nxt_types::pool::ROW_BYTES;
 use nxt_types::shape::Shape;
 use std::alloc::Global;
-
-/// The bytes of a row of the file's table.
-const ROW_BYTES: u32 = 10;
 
 // A byte of the dataspace; one past its end counts as 0.
 fn byte_at(layout: &Layout, at: u32) -> u8
@@ -96,7 +94,7 @@ fn row_of(layout: &Layout, number: u16) -> Row
             count: 0,
         };
     }
-    let at = u32::from(layout.dope_at()) + ROW_BYTES * u32::from(number);
+    let at = u32::from(layout.dope_at()) + ROW_BYTES as u32 * u32::from(number);
     Row {
         place: word_at(layout, at),
         stride: word_at(layout, at + 2),

@@ -5,7 +5,7 @@ ghost use Rattle.std.specs.Int.{to_le_bytes, w16};
 ghost use Rattle.nxt_types.specs.Arithmetic.{leaf_size as size_of_leaf, width_of};
 ghost use Rattle.nxt_types.specs.Shapes.{tree, members};
 ghost use Rattle.nxt_types.specs.Names.{size, sizes};
-ghost use Rattle.nxt_model.specs.Footprint.{pool_size, round4 as rounded};
+ghost use Rattle.nxt_types.specs.Pool.{pool_size, round4 as rounded};
 ghost use Rattle.nxt_heap.specs.Lists.{footprint};
 ghost use Rattle.nxt_space.specs.Homes.{bytes_in, IsHome, HoldsThere, HoldAllThere};
 ghost use Rattle.nxt_space.specs.Writes.{with_bytes, put, bytes_of_number, without, emptied, rows_there, all_rows_there, AreOwn};
@@ -15,10 +15,8 @@ use crate::reading::{Home, Place, leaf_place, row_at, size_of};
 use nxt_heap::{Heap, PoolPassed};
 use nxt_types::kind::Kind;
 use nxt_types::numbers::wrap;
+use nxt_types::pool::POOL_BYTES;
 use nxt_types::shape::{Shape, TocEntry};
-
-/// A list of more elements passes the pool.
-const MOST: u64 = 32768;
 
 /// Stores a byte.
 pub fn set_byte(heap: &mut Heap, home: Home, at: u32, b: u8)
@@ -208,7 +206,7 @@ pub fn fill<'a>(
         Shape::List(stride, element) => {
             let place = leaf_place(entries, at.entry, at.base);
             let count = first_count(from);
-            if count > MOST {
+            if count > POOL_BYTES {
                 return Err(PoolPassed(count));
             }
             let count = count as u32;

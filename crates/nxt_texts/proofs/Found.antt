@@ -10,8 +10,7 @@ use Rattle.nxt_model.specs.Means.Strings.{found_number}
 use Rattle.nxt_model.specs.Values.{Num, number, stored}
 use Rattle.nxt_space.specs.Variables.{Variables, AreSound, shape_of, with_value}
 use Rattle.nxt_space.specs.Outcomes.{Does}
-use Rattle.nxt_ops.specs.Operands.{given_or_left, place_of, place_or_none, values_stored}
-use Rattle.nxt_ops.specs.Ops.{Done, given}
+use Rattle.nxt_operands.specs.Operands.{given_or_left, place_of, place_or_none, values_stored, Done, given}
 use Rattle.nxt_texts.specs.Numerals.{numeral, with_number}
 use Rattle.nxt_texts.specs.declared.numerals.Numeral.{Numeral}
 use Rattle.nxt_texts.proofs.Destinations.{both_numbers, word_stored}

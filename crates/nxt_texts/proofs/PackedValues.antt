@@ -1,5 +1,5 @@
 -- Values without lists, as bytes and as numbers.
-use Rattle.std.proofs.Common.{Option, Some, None, IsSome, option_map, subst, Bor, ◌≡◌, ℕ, zero, suc, ◌+◌, ◌-◌, ◌*◌, ◌^◌, ◌<◌, ◌≤◌, Bool, true, false, List, [], ◌∷◌, ◌++◌, length, drop, refl, sym, ap, ap₂, ◌∙◌, append_assoc, append-nil, drop-drop, length-drop, arith}
+use Rattle.std.proofs.Common.{Option, Some, IsSome, subst, Bor, ◌≡◌, ℕ, zero, suc, ◌+◌, ◌-◌, ◌*◌, ◌^◌, ◌<◌, ◌≤◌, Bool, true, false, List, [], ◌∷◌, ◌++◌, length, drop, refl, sym, ap, ap₂, ◌∙◌, append_assoc, append-nil, drop-drop, length-drop, arith}
 use Rattle.std.specs.Prelude.{ℤ, nat_abs, ◌||◌}
 use Rattle.std.specs.List.{list_all}
 use Rattle.std.proofs.lemmas.Bool.{and_parts, and_from}
@@ -9,16 +9,15 @@ use Rattle.std.proofs.lemmas.List.{length-take, length-append}
 use Rattle.nxt_types.specs.Arithmetic.{cut, word, width_of, leaf_size}
 use Rattle.nxt_types.specs.declared.kind.Kind.{Kind}
 use Rattle.nxt_types.specs.declared.kind.Kind.TheVariants.{Ubyte, Sbyte, Uword, Sword, Ulong, Slong}
-use Rattle.nxt_types.specs.Names.{Name, size, sizes}
-use Rattle.nxt_types.specs.Shapes.{Shape, Void, Number, Array, Cluster, Mutex, Members, no_members, member, has_list, some_list, convertible}
+use Rattle.nxt_types.specs.Names.{size, sizes}
+use Rattle.nxt_types.specs.Shapes.{Shape, Void, Number, Array, Cluster, Mutex, Members, no_members, member, has_list, some_list}
 use Rattle.nxt_model.specs.Footprint.{list_bytes, member_bytes}
 use Rattle.nxt_model.specs.Means.Text.{packed, packed_members, packed_size, packed_sizes, unpacked, unpacked_members}
-use Rattle.nxt_model.specs.Values.{Value, Values, Num, GroupOf, no_more, value, items, elements, number, flat, flats, stored, is_of, are_of, lists_in, lists_among, many}
+use Rattle.nxt_model.specs.Values.{Value, Values, Num, GroupOf, no_more, value, items, elements, number, flat, flats, is_of, are_of, lists_in, lists_among, many}
 use Rattle.nxt_space.specs.Fills.{first_of, filled, all_filled}
-use Rattle.nxt_space.specs.Variables.{Variables, AreSound, name_of, shape_by, shape_of, value_of}
-use Rattle.nxt_space.proofs.FilledLaws.{filled_stored}
+use Rattle.nxt_space.specs.Variables.{Variables, AreSound, name_of, shape_of, value_of}
 use Rattle.nxt_space.proofs.HeldOf.{cut-extend, number_of_kind}
-use Rattle.nxt_ops.proofs.Counting.{sound_part, few_entries}
+use Rattle.nxt_operands.proofs.Counting.{sound_part, few_entries}
 use Rattle.nxt_texts.specs.Packing.{packed_front, packed_fronts, Unpacks}
 
 -- none of both
@@ -73,11 +72,6 @@ mutual
 -- the bytes of a variable's value are few
 pub packed_bounded : (s : Variables) (i : ℕ) → AreSound s → length (packed (shape_of s i) (value_of s i)) < 2 ^ 18
 packed_bounded s i sound = omega (arith, packed_few (shape_of s i) (value_of s i), few_entries s i sound)
-
--- the shape that the table tells
-pub shape_told : (t : Shape) (o : Option Name) → Some t ≡ option_map (λ (n : Name). n.shape) o → t ≡ shape_by o
-shape_told t None e = let f : ⊥ = cc in absurd f
-shape_told t (Some n) e = cc
 
 -- the bytes that are added for a variable's flat form
 pub value_packed : (s : Variables) (i : ℕ) (t : Shape) (zs : List ℤ) (begun whole : List ℕ) → AreSound s → IsSome (name_of s i) → has_list (shape_of s i) ≡ false → t ≡ shape_of s i → zs ≡ flat (value_of s i) → begun ≡ [] → whole ≡ begun ++ (packed_front t zs).0 → whole ≡ packed (shape_of s i) (value_of s i)
@@ -196,9 +190,3 @@ mutual
   members_filled (member s ss) zs =
       let rest = (filled s zs).1 in
       and_from (is_of s (filled s zs).0) (are_of ss (items (all_filled ss rest).0)) (filled_of_shape s zs) (members_filled ss rest)
-
--- the flat form of a value that converts fills a place with the value
-pub filled_flat : (s t : Shape) (v : Value) (zs : List ℤ) → convertible s t ≡ true → is_of t v ≡ true → zs ≡ flat v → (filled s zs).0 ≡ stored s v
-filled_flat s t v zs fits of is =
-    ap (λ ys. (filled s ys).0) (is ∙ sym (append-nil (flat v)))
-    ∙ ap (λ (r : Value × List ℤ). r.0) (filled_stored s t v [] fits of)

@@ -1,33 +1,32 @@
 -- A number that is told beside a value.
-use Rattle.std.proofs.Common.{length, IsSome, MatchOption, Result, subst₂, le-leb, ◌≡◌, ℕ, ◌+◌, ◌*◌, ◌≤◌, ◌<◌, ◌==◌, max, Bool, true, false, [], ◌∷◌, ◌++◌, List, Option, Some, None, Ok, Err, refl, sym, ap, ap₂, ◌∙◌, subst, arith}
-use Rattle.std.specs.Prelude.{ℤ, pos, if◌then◌else◌}
+use Rattle.std.proofs.Common.{length, IsSome, MatchOption, Result, le-leb, ◌≡◌, ℕ, ◌+◌, ◌*◌, ◌≤◌, ◌<◌, ◌==◌, max, Bool, true, false, [], ◌∷◌, ◌++◌, List, Option, Some, None, Ok, Err, refl, sym, ap, ap₂, ◌∙◌, subst, arith}
+use Rattle.std.specs.Prelude.{ℤ, pos, if◌then◌else◌, IsErrAnd}
 use Rattle.std.proofs.lemmas.Bool.{lt-leb}
-use Rattle.nxt_types.specs.Tables.{Table}
 use Rattle.nxt_types.specs.Names.{Name}
 use Rattle.nxt_types.specs.Shapes.{convertible, has_list, Shape, Number, Cluster, is_number}
 use Rattle.nxt_model.specs.Devices.{Devices}
-use Rattle.nxt_model.specs.Footprint.{round4, list_bytes, pool_size}
+use Rattle.nxt_model.specs.Footprint.{list_bytes}
+use Rattle.nxt_types.specs.Pool.{round4, pool_size}
 use Rattle.nxt_model.specs.Means.Effects.{Left, Effect, effect, store}
 use Rattle.nxt_model.specs.Means.Strings.{unflatten}
 use Rattle.nxt_model.specs.Means.Text.{packed_size, unpacked}
 use Rattle.nxt_model.specs.Values.{Value, Num, flat, stored, is_of, part, lists_in}
 use Rattle.nxt_model.specs.Variables.{Absent, put, put_all}
 use Rattle.nxt_space.specs.Fills.{filled}
-use Rattle.nxt_space.specs.Variables.{Variables, AreSound, name_of, shape_by, shape_of, value_of, with_by, with_value, with_values, footprint_of, Becomes}
+use Rattle.nxt_space.specs.Variables.{Variables, AreSound, name_of, shape_by, shape_of, value_of, with_by, with_value, with_values, footprint_of}
 use Rattle.nxt_space.specs.Outcomes.{Does}
 use Rattle.nxt_space.specs.declared.fault.OpFault.{OpFault}
-use Rattle.nxt_space.specs.declared.fault.OpFault.TheVariants.{PoolPassed}
+use Rattle.nxt_space.specs.declared.fault.OpFault.TheVariants.{PoolPassed, NoMemory}
 use Rattle.nxt_space.proofs.PartSizes.{lists_with_part, bytes_with_part, part_of_shape, with_part_of_shape}
-use Rattle.nxt_ops.specs.Ops.{AreOf, Done, given, shape_in}
-use Rattle.nxt_ops.specs.Operands.{given_or_left, place_of, place_or_none, values_stored}
-use Rattle.nxt_ops.proofs.Counting.{IsSoundPart, sound_part, value_countable}
-use Rattle.nxt_ops.proofs.NumberLists.{shape_there}
-use Rattle.nxt_ops.proofs.Storing.{IsStorable}
+use Rattle.nxt_operands.specs.Operands.{Done, given, given_or_left, place_of, place_or_none, values_stored}
+use Rattle.nxt_operands.proofs.Counting.{IsSoundPart, sound_part}
+use Rattle.nxt_operands.proofs.Refused.{passed_on}
+use Rattle.nxt_operands.proofs.Stored.{IsStorable, part_storable}
 use Rattle.nxt_texts.specs.Packing.{told_in}
 use Rattle.nxt_texts.specs.Numerals.{with_number}
 use Rattle.nxt_texts.specs.Texts.{text_at}
-use Rattle.nxt_ops.proofs.Meant.{one_placed}
-use Rattle.nxt_texts.proofs.PackedValues.{filled_flat, filled_of_shape, plain_value, unpacked_of_shape}
+use Rattle.nxt_operands.proofs.Meant.{one_placed}
+use Rattle.nxt_texts.proofs.PackedValues.{filled_of_shape, plain_value, unpacked_of_shape}
 
 -- ---- sizes
 
@@ -90,21 +89,31 @@ rows_if false s i z vars e =
     let w = with_by (name_of s i) (stored (shape_of s i) (Num z)) vars in
     ap {A = ℕ} (λ l. record s { values = w; rows = max s.rows (l + 1) }) (sym e.lists)
 
-pub told_set : (s between new : Variables) (dest i : ℕ) (zs : List ℤ) (z x : ℤ) → AreSound s → ((i == 0xFFFF) ≡ false → is_number (shape_of s i) ≡ true) → x ≡ z → Becomes s (with_values (with_value s dest (filled (shape_of s dest) zs).0) s) (Ok tt) between → new ≡ with_number between i x → Does {T = Unit {0}} Done (told_in s i z (with_value s dest (filled (shape_of s dest) zs).0)) s (Ok tt) new
-told_set s between new dest i zs z x sound number same h set =
-    let vars = with_value s dest (filled (shape_of s dest) zs).0 in
-    let sizes = told_sizes s i z vars (filled_of s dest zs sound) number in (
+pub set_beside : (s between new : Variables) (i : ℕ) (vars : Value) (z x : ℤ) → is_of (Cluster s.shapes) vars ≡ true → ((i == 0xFFFF) ≡ false → is_number (shape_of s i) ≡ true) → x ≡ z → Does {T = Unit {0}} Done vars s (Ok tt) between → new ≡ with_number between i x → Does {T = Unit {0}} Done (told_in s i z vars) s (Ok tt) new
+set_beside s between new i vars z x of number same h set =
+    let sizes = told_sizes s i z vars of number in (
       subst (λ n. n ≤ pool_size) (sym (same_footprint s vars (told_in s i z vars) sizes)) h.0,
       set ∙ ap₂ (λ n y. with_number n i y) h.1 same ∙ rows_if (i == 0xFFFF) s i z vars sizes,
       tt,
     )
 
+-- beside what numbers spell
+pub told_set : (s between new : Variables) (dest i : ℕ) (zs : List ℤ) (z x : ℤ) → AreSound s → ((i == 0xFFFF) ≡ false → is_number (shape_of s i) ≡ true) → x ≡ z → let vars = with_value s dest (filled (shape_of s dest) zs).0 in Does {T = Unit {0}} Done vars s (Ok tt) between → new ≡ with_number between i x → Does {T = Unit {0}} Done (told_in s i z vars) s (Ok tt) new
+told_set s between new dest i zs z x sound number same h set =
+    set_beside s between new i (with_value s dest (filled (shape_of s dest) zs).0) z x (filled_of s dest zs sound) number same h set
+
 -- a refused store refuses the statement
-pub told_refused : (s new : Variables) (dest i : ℕ) (zs : List ℤ) (z : ℤ) (bytes : ℕ) → AreSound s → ((i == 0xFFFF) ≡ false → is_number (shape_of s i) ≡ true) → let next = with_values (with_value s dest (filled (shape_of s dest) zs).0) s in (pool_size < footprint_of next) × (bytes ≡ footprint_of next) × (new ≡ s) → Does {T = Unit {0}} Done (told_in s i z (with_value s dest (filled (shape_of s dest) zs).0)) s (Err (PoolPassed bytes)) new
-told_refused s new dest i zs z bytes sound number h =
+told_fault : (s new : Variables) (dest i : ℕ) (zs : List ℤ) (z : ℤ) (fault : OpFault) → AreSound s → ((i == 0xFFFF) ≡ false → is_number (shape_of s i) ≡ true) → let vars = with_value s dest (filled (shape_of s dest) zs).0 in Does {T = Unit {0}} Done vars s (Err fault) new → Does {T = Unit {0}} Done (told_in s i z vars) s (Err fault) new
+told_fault s new dest i zs z (PoolPassed bytes) sound number h =
     let vars = with_value s dest (filled (shape_of s dest) zs).0 in
     let same = same_footprint s vars (told_in s i z vars) (told_sizes s i z vars (filled_of s dest zs sound) number) in
     (subst (λ n. pool_size < n) (sym same) h.0, h.1 ∙ sym same, h.2)
+told_fault s new dest i zs z NoMemory sound number h = h
+
+pub told_refused : (s new : Variables) (dest i : ℕ) (zs : List ℤ) (z : ℤ) (fault : OpFault) (r : Result Unit OpFault) → AreSound s → ((i == 0xFFFF) ≡ false → is_number (shape_of s i) ≡ true) → let vars = with_value s dest (filled (shape_of s dest) zs).0 in IsErrAnd r (λ f. f ≡ fault) → Does {T = Unit {0}} Done vars s (Err fault) new → Does {T = Unit {0}} Done (told_in s i z vars) s r new
+told_refused s new dest i zs z fault r sound number e h =
+    let vars = with_value s dest (filled (shape_of s dest) zs).0 in
+    passed_on Done Done (told_in s i z vars) s new fault r e (told_fault s new dest i zs z fault sound number h)
 
 -- ---- what a statement stores in two places
 
@@ -132,19 +141,20 @@ pub record IsFound (s : Variables) (source i : ℕ) (zs : List ℤ) : Type 0 whe
   pub fits : packed_size (shape_of s i) ≤ length (text_at s source)
   pub is : zs ≡ flat (unpacked (shape_of s i) (text_at s source))
 
-pub found_there : (toc : Table) (s : Variables) (source i : ℕ) (bytes : List ℕ) (zs : List ℤ) (found : Option (List ℤ)) → AreOf toc s → bytes ≡ text_at s source → found ≡ Some zs → MatchOption found (length bytes < packed_size (shape_in toc i)) (λ flat_form. (packed_size (shape_in toc i) ≤ length bytes) × (flat_form ≡ flat (unpacked (shape_in toc i) bytes))) → IsFound s source i zs
-found_there toc s source i bytes zs found of text is h =
-    let both = subst (λ o. MatchOption o (length bytes < packed_size (shape_in toc i)) (λ flat_form. (packed_size (shape_in toc i) ≤ length bytes) × (flat_form ≡ flat (unpacked (shape_in toc i) bytes)))) is h in
-    let same = shape_there toc s i of in
+pub found_there : (s : Variables) (source i : ℕ) (bytes : List ℕ) (zs : List ℤ) (found : Option (List ℤ)) → bytes ≡ text_at s source → found ≡ Some zs → MatchOption found (length bytes < packed_size (shape_of s i)) (λ flat_form. (packed_size (shape_of s i) ≤ length bytes) × (flat_form ≡ flat (unpacked (shape_of s i) bytes))) → IsFound s source i zs
+found_there s source i bytes zs found text is h =
+    let t = shape_of s i in
+    let both = subst (λ o. MatchOption o (length bytes < packed_size t) (λ flat_form. (packed_size t ≤ length bytes) × (flat_form ≡ flat (unpacked t bytes)))) is h in
     record {
-      fits = subst₂ (λ t bs. packed_size t ≤ length bs) same text both.0;
-      is = both.1 ∙ ap₂ (λ t bs. flat (unpacked t bs)) same text;
+      fits = subst (λ bs. packed_size t ≤ length bs) text both.0;
+      is = both.1 ∙ ap (λ bs. flat (unpacked t bs)) text;
     }
 
-pub none_there : (toc : Table) (s : Variables) (source i : ℕ) (bytes : List ℕ) (found : Option (List ℤ)) → AreOf toc s → bytes ≡ text_at s source → found ≡ None → MatchOption found (length bytes < packed_size (shape_in toc i)) (λ flat_form. (packed_size (shape_in toc i) ≤ length bytes) × (flat_form ≡ flat (unpacked (shape_in toc i) bytes))) → length (text_at s source) < packed_size (shape_of s i)
-none_there toc s source i bytes found of text is h =
-    subst₂ (λ t bs. length bs < packed_size t) (shape_there toc s i of) text
-    (subst (λ o. MatchOption o (length bytes < packed_size (shape_in toc i)) (λ flat_form. (packed_size (shape_in toc i) ≤ length bytes) × (flat_form ≡ flat (unpacked (shape_in toc i) bytes)))) is h)
+pub none_there : (s : Variables) (source i : ℕ) (bytes : List ℕ) (found : Option (List ℤ)) → bytes ≡ text_at s source → found ≡ None → MatchOption found (length bytes < packed_size (shape_of s i)) (λ flat_form. (packed_size (shape_of s i) ≤ length bytes) × (flat_form ≡ flat (unpacked (shape_of s i) bytes))) → length (text_at s source) < packed_size (shape_of s i)
+none_there s source i bytes found text is h =
+    let t = shape_of s i in
+    subst (λ bs. length bs < packed_size t) text
+    (subst (λ o. MatchOption o (length bytes < packed_size t) (λ flat_form. (packed_size t ≤ length bytes) × (flat_form ≡ flat (unpacked t bytes)))) is h)
 
 -- it can be stored where a value of the entry can
 pub unpacked_storable : (s : Variables) (dest i : ℕ) (bytes : List ℕ) (zs : List ℤ) → AreSound s → IsSome (name_of s dest) → IsSome (name_of s i) → has_list (shape_of s i) ≡ false → convertible (shape_of s dest) (shape_of s i) ≡ true → zs ≡ flat (unpacked (shape_of s i) bytes) → IsStorable s dest (unpacked (shape_of s i) bytes) zs
@@ -153,12 +163,8 @@ unpacked_storable s dest i bytes zs sound there some none fits is =
     let v = unpacked t bytes in
     let of = unpacked_of_shape t bytes in
     let plain = plain_value t v none of in
-    let filled = filled_flat (shape_of s dest) t v zs fits of is in
     let part : IsSoundPart t v = record { strides = (sound_part s i sound some).strides; of = of; lists = omega (arith, plain.lists); bytes = omega (arith, plain.bytes) } in
-    record {
-      filled = filled;
-      countable = value_countable (shape_of s dest) t v zs (sound_part s dest sound there).strides part fits filled;
-    }
+    part_storable s dest t v zs sound there part fits is
 
 -- ---- the statement
 

@@ -1,12 +1,12 @@
 -- Texts in variables: their bytes, their bodies, and what storing bytes gives.
-use Rattle.std.proofs.Common.{◌≡◌, ℕ, suc, ◌+◌, ◌-◌, ◌*◌, ◌^◌, ◌%◌, ◌<◌, ◌≤◌, Bool, true, false, List, [], ◌∷◌, ◌++◌, map, drop, take, length, sum_by, IsSome, Err, refl, sym, ap, ap₂, ◌∙◌, subst, arith, eq-eqb}
+use Rattle.std.proofs.Common.{◌≡◌, ℕ, ◌+◌, ◌*◌, ◌^◌, ◌%◌, ◌<◌, ◌≤◌, Bool, true, false, List, [], ◌∷◌, ◌++◌, map, length, sum_by, IsSome, refl, sym, ap, ap₂, ◌∙◌, subst, arith, eq-eqb}
 use Rattle.std.specs.Prelude.{ℤ, pos, if◌then◌else◌, ◌==◌}
 use Rattle.std.specs.List.{list_all, All}
 use Rattle.std.proofs.lemmas.Bool.{and_parts, ne_eqb}
 use Rattle.std.proofs.lemmas.Bool.Decides.{Decides-int_eq}
 use Rattle.std.proofs.lemmas.Int.{ints}
 use Rattle.std.proofs.lemmas.List.{length-map, nil_from_length}
-use Rattle.std.proofs.lemmas.List.Elements.{All-nil, All-cons, All-same}
+use Rattle.std.proofs.lemmas.List.Elements.{All-nil, All-cons}
 use Rattle.std.proofs.lemmas.List.Sums.{sum_by-cons}
 use Rattle.std.proofs.lemmas.Nat.{mul-le}
 use Rattle.nxt_types.specs.Arithmetic.{cut, word}
@@ -14,22 +14,22 @@ use Rattle.nxt_types.specs.Calls.{is_text}
 use Rattle.nxt_types.specs.Shapes.{Shape, Number, Array, is_numbers}
 use Rattle.nxt_types.specs.declared.kind.Kind.{Kind}
 use Rattle.nxt_types.specs.declared.kind.Kind.TheVariants.{Ubyte}
-use Rattle.nxt_model.specs.Footprint.{round4, list_bytes, pool_size}
+use Rattle.nxt_model.specs.Footprint.{list_bytes}
+use Rattle.nxt_types.specs.Pool.{round4, pool_size}
 use Rattle.nxt_model.specs.Means.Text.{body}
-use Rattle.nxt_model.specs.Values.{Value, Num, ListOf, GroupOf, value, values, items, elements, number, word_of, list_of, byte_list, bytes_of, flat, stored, is_of, part, lists_in, lists_among, many}
+use Rattle.nxt_model.specs.Values.{Value, Num, ListOf, GroupOf, value, values, items, elements, number, word_of, list_of, byte_list, bytes_of, stored, is_of, lists_in, lists_among, many}
 use Rattle.nxt_model.proofs.ValueLemmas.{items-values}
 use Rattle.nxt_space.specs.Fills.{filled}
 use Rattle.nxt_space.specs.Sizes.{IsCountable, size_in}
-use Rattle.nxt_space.specs.Variables.{Variables, AreSound, name_of, shape_of, value_of, with_value, with_values, positions, footprint_of, footprint_with}
-use Rattle.nxt_space.specs.declared.fault.OpFault.TheVariants.{PoolPassed}
-use Rattle.nxt_space.proofs.VariableLaws.{footprint_told}
-use Rattle.nxt_ops.specs.Elements.{numbers_in}
-use Rattle.nxt_ops.proofs.Counting.{IsSoundPart, sound_part}
-use Rattle.nxt_ops.proofs.NumberLists.{flat_numbers, variable_numbers, behind_first}
-use Rattle.nxt_ops.proofs.Storing.{IsStorable, whole_gathered}
-use Rattle.nxt_ops.proofs.Meant.{given_stored}
-use Rattle.nxt_ops.specs.Operands.{stride_of}
-use Rattle.nxt_texts.specs.Texts.{IsByte, StoresBytes, flat_bytes, text_at}
+use Rattle.nxt_space.specs.Variables.{Variables, AreSound, name_of, shape_of, value_of}
+use Rattle.nxt_space.specs.declared.sizing.Size.{Size}
+use Rattle.nxt_space.proofs.Counting.{nothing}
+use Rattle.nxt_operands.specs.Numbers.{AreNumbers, numbers_in}
+use Rattle.nxt_operands.proofs.Counting.{IsSoundPart, sound_part}
+use Rattle.nxt_operands.proofs.NumberLists.{variable_numbers}
+use Rattle.nxt_operands.proofs.Stored.{IsStorable}
+use Rattle.nxt_operands.specs.Operands.{stride_of, with_list}
+use Rattle.nxt_texts.specs.Texts.{IsByte, flat_bytes, text_at}
 
 -- ---- shapes
 
@@ -81,9 +81,9 @@ few_elements n v e =
     let count = length (elements v) in
     omega (arith, length-map (elements v) word_of, mul-le count 1 count n (omega arith) e.strides.0, e.bytes)
 
--- the text of an entry: its flat form, and its bytes
+-- the text of an entry: its numbers, and its bytes
 pub record IsText (s : Variables) (i : ℕ) : Type 0 where
-  pub flat : flat (value_of s i) ≡ pos (length (numbers_in (value_of s i))) ∷ numbers_in (value_of s i)
+  pub numbers : AreNumbers (value_of s i)
   pub are_bytes : All IsByte (numbers_in (value_of s i))
   pub bytes : map word (numbers_in (value_of s i)) ≡ text_at s i
   pub few : length (text_at s i) ≤ pool_size
@@ -94,31 +94,10 @@ is_text_there s i sound some text =
     let is = text_shape (shape_of s i) text in
     let part = subst (λ t. IsSoundPart t v) is.1 (sound_part s i sound some) in
     record {
-      flat = flat_numbers v (variable_numbers s i sound some (text_numbers (shape_of s i) text));
+      numbers = variable_numbers s i sound some (text_numbers (shape_of s i) text);
       are_bytes = listed_bytes is.0 v part.of;
       bytes = words_again (elements v);
       few = few_elements is.0 v part;
-    }
-
--- the numbers behind the first one of a gathered text
-pub record IsGathered (s : Variables) (i : ℕ) (whole : List ℤ) : Type 0 where
-  pub first : 1 ≤ length whole
-  pub are_bytes : All IsByte (take (length whole - 1) (drop 1 whole))
-  pub bytes : map word (take (length whole - 1) (drop 1 whole)) ≡ text_at s i
-  pub few : length (text_at s i) ≤ pool_size
-
-pub text_gathered : (s : Variables) (i : ℕ) (whole zs begun steps : List ℤ) → AreSound s → IsSome (name_of s i) → is_text (shape_of s i) ≡ true → whole ≡ zs → zs ≡ begun ++ flat (part (positions steps) (value_of s i)) → begun ≡ [] → steps ≡ [] → IsGathered s i whole
-text_gathered s i whole zs begun steps sound some text same is none all =
-    let there = is_text_there s i sound some text in
-    let ns = numbers_in (value_of s i) in
-    let spelled : whole ≡ pos (length ns) ∷ ns = same ∙ whole_gathered (value_of s i) zs begun steps is none all ∙ there.flat in
-    let long : length whole ≡ suc (length ns) = ap length spelled in
-    let behind = behind_first (pos (length ns)) ns whole (take (length whole - 1) (drop 1 whole)) spelled refl in
-    record {
-      first = omega (arith, long);
-      are_bytes = All-same IsByte _ ns behind there.are_bytes;
-      bytes = ap (map word) behind ∙ there.bytes;
-      few = there.few;
     }
 
 -- ---- bodies
@@ -208,22 +187,21 @@ bytes_storable s i bs zs sound some text few is =
       countable = subst (λ w. IsCountable (size_in t w)) (sym filled) (few_countable t bs block (stride_there s i sound some text) few);
     }
 
--- ---- bytes that the pool doesn't hold
+-- ---- how much of the pool bytes take
 
--- the bytes of a block can be counted
-pub block_countable : (count stride bytes : ℕ) → count < 2 ^ 32 → stride < 2 ^ 16 → bytes ≡ round4 (count * stride) → IsCountable (record { lists = 1; bytes = bytes })
-block_countable count stride bytes few less is =
+-- so many bytes can be counted
+pub bytes_countable : (s : Shape) (count : ℕ) → count < 2 ^ 32 → stride_of s < 2 ^ 16 → IsCountable (with_list s count nothing)
+bytes_countable s count few less =
     record {
       lists = omega arith;
-      bytes = omega (arith, is, mul-le count stride (2 ^ 32) (2 ^ 16) (omega (arith, few)) (omega (arith, less)));
+      bytes = omega (arith, mul-le count (stride_of s) (2 ^ 32) (2 ^ 16) (omega (arith, few)) (omega (arith, less)));
     }
 
--- what was told of their block holds of the statement
-pub bytes_refused : (s : Variables) (i : ℕ) (bs : List ℕ) (bytes passed : ℕ) → AreSound s → IsSome (name_of s i) → is_text (shape_of s i) ≡ true → bytes ≡ round4 (length bs * stride_of (shape_of s i)) → (pool_size < footprint_with s i 1 bytes) × (passed ≡ footprint_with s i 1 bytes) → StoresBytes s i bs (Err (PoolPassed passed)) s
-bytes_refused s i bs bytes passed sound some text is h d =
-    let v = stored (shape_of s i) (byte_list bs) in
-    let block = block_there (shape_of s i) bs text in
-    let told : footprint_of (with_values (with_value s i v) s) ≡ footprint_with s i 1 bytes =
-    footprint_told s i v sound.shapes some ∙ ap₂ (footprint_with s i) block.lists (block.bytes ∙ sym is)
+-- they take what was counted
+pub bytes_size : (s : Shape) (bs : List ℕ) (count : ℕ) → is_text s ≡ true → count ≡ length bs → with_list s count nothing ≡ size_in s (stored s (byte_list bs))
+bytes_size s bs count text is =
+    let block = block_there s bs text in
+    let bytes : round4 (count * stride_of s) + 0 ≡ list_bytes s (stored s (byte_list bs)) =
+    ap (λ n. round4 (n * stride_of s) + 0) is ∙ omega (arith, block.bytes)
     in
-    given_stored s s i (byte_list bs) (Err (PoolPassed passed)) (subst (λ n. pool_size < n) (sym told) h.0, h.1 ∙ sym told, refl) d
+    ap₂ (λ l b. let z : Size = record { lists = l; bytes = b } in z) (sym block.lists) bytes

@@ -9,8 +9,7 @@ use Rattle.nxt_model.specs.Values.{byte_list, bytes_of}
 use Rattle.nxt_space.specs.Variables.{Variables, value_of}
 use Rattle.nxt_space.specs.Outcomes.{Does}
 use Rattle.nxt_space.specs.declared.fault.OpFault.{OpFault}
-use Rattle.nxt_ops.specs.Ops.{Done, given}
-use Rattle.nxt_ops.specs.Operands.{place_of, values_stored}
+use Rattle.nxt_operands.specs.Operands.{Done, given, place_of, values_stored}
 
 -- ---- texts
 

@@ -1,6 +1,7 @@
 // Numbers in texts.
 
-ghost use Rattle.std.specs.Prelude.{◌≡◌, ◌∷◌, ◌==◌, ◌%◌, ◌^◌, ◌≤◌, [], true, false, length, IfSome, IsSome};
+ghost use Rattle.std.specs.Prelude.{◌≡◌, ◌∷◌, ◌==◌, ◌%◌, ◌^◌, ◌≤◌, [], true, false, length, string_bytes, IfOk, IfSome, IsSome};
+ghost use Rattle.std.specs.Fmt.{signed_decimal};
 ghost use Rattle.std.specs.List.{prefix_len, take_while};
 ghost use Rattle.nxt_types.specs.Arithmetic.{word as word_of};
 ghost use Rattle.nxt_types.specs.Calls.{is_text};
@@ -10,14 +11,14 @@ ghost use Rattle.nxt_model.specs.Means.Strings.{number_to_string as to_string_me
 ghost use Rattle.nxt_model.specs.Means.Text.{digits_value, is_digit, sign_at as sign_of, signed_number};
 ghost use Rattle.nxt_space.specs.Variables.{AreSound, name_of, shape_of};
 ghost use Rattle.nxt_space.specs.Outcomes.{Does};
-ghost use Rattle.nxt_ops.specs.Ops.{Done, given};
-ghost use Rattle.nxt_ops.specs.Operands.{given_or_left, place_of, place_or_none, values_stored};
+ghost use Rattle.nxt_operands.specs.Operands.{Done, given, given_or_left, place_of, place_or_none, values_stored};
 ghost use Rattle.nxt_texts.specs.Numerals.{is_space, numeral_at as numeral_of};
 
 use crate::operands::set_unless_left_out;
 use crate::text::{behind, body, store_text, text_of};
-use nxt_ops::operands::word_or;
+use nxt_operands::operands::word_or;
 use nxt_space::{OpFault, Space};
+use nxt_types::NoMemory;
 use nxt_types::numbers::wrap;
 use std::alloc::Global;
 
@@ -42,10 +43,15 @@ pub fn number_to_string(
     requires is_number { is_number (shape_of space.old number) ≡ true }
     ensures { (d : Devices) → Does Done (values_stored space.old (place_of space.old dest ∷ []) (to_string_means d (given space.old dest) (given space.old number))) space.old result space.new }
 {
-    let Ok(digits) = space.get(number).to_string(alloc) else {
-        return Err(OpFault::NoMemory);
-    };
+    let digits = decimal(alloc, space.get(number))?;
     store_text(alloc, space, dest, digits.as_bytes())
+}
+
+// The decimal text of a number.
+fn decimal(alloc: Global, number: i64) -> Result<String, NoMemory>
+    ensures { IfOk result (λ text. string_bytes text ≡ signed_decimal number) }
+{
+    Ok(number.to_string(alloc)?)
 }
 
 /// Stores the number that a text's body has from an offset on (0 where it is left out), behind spaces and a sign, and the
@@ -67,9 +73,7 @@ pub fn string_to_number(
     requires source_text { is_text (shape_of space.old source) ≡ true }
     ensures { (d : Devices) → Does Done (values_stored space.old (place_of space.old dest ∷ place_or_none space.old past ∷ []) (to_number_means d (given space.old dest) (given_or_left space.old past) (given space.old source) (given_or_left space.old offset) (given_or_left space.old default))) space.old result space.new }
 {
-    let Ok(text) = text_of(alloc, space, source) else {
-        return Err(OpFault::NoMemory);
-    };
+    let text = text_of(alloc, space, source)?;
     let at = word_or(space, offset, 0);
     let default = Numeral {
         word: word_or(space, default, 0),

@@ -5,8 +5,8 @@ ghost use Rattle.nxt_types.specs.Shapes.{is_number};
 ghost use Rattle.nxt_space.specs.Variables.{shape_of};
 ghost use Rattle.nxt_texts.specs.Numerals.{with_number};
 
-use nxt_ops::operands::LEFT_OUT;
 use nxt_space::Space;
+use nxt_types::words::LEFT_OUT;
 
 /// Stores a number, cut to its kind, where the operand isn't left out.
 pub fn set_unless_left_out(space: &mut Space, i: u16, number: i64)

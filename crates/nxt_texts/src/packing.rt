@@ -4,7 +4,6 @@ ghost use Rattle.std.specs.Prelude.{◌≡◌, ◌∷◌, ◌++◌, ◌==◌, �
 ghost use Rattle.std.specs.Int.{from_le_bytes};
 ghost use Rattle.nxt_types.specs.Arithmetic.{leaf_size as size_of_leaf, width_of};
 ghost use Rattle.nxt_types.specs.Calls.{is_text};
-ghost use Rattle.nxt_types.specs.Names.{name_among};
 ghost use Rattle.nxt_types.specs.Shapes.{convertible, has_list, is_number, tree, members};
 ghost use Rattle.nxt_model.specs.Devices.{Devices};
 ghost use Rattle.nxt_model.specs.Means.Strings.{flatten as flatten_means, unflatten as unflatten_means};
@@ -14,71 +13,49 @@ ghost use Rattle.nxt_space.specs.Fills.{filled, first_of};
 ghost use Rattle.nxt_space.specs.Sizes.{IsCountable, size_of_filled};
 ghost use Rattle.nxt_space.specs.Variables.{AreSound, name_of, shape_of, value_of, with_value};
 ghost use Rattle.nxt_space.specs.Outcomes.{Does};
-ghost use Rattle.nxt_ops.specs.Ops.{AreOf, Done, given, shape_in};
-ghost use Rattle.nxt_ops.specs.Operands.{given_or_left, place_of, place_or_none, values_stored};
+ghost use Rattle.nxt_operands.specs.Operands.{Done, given, given_or_left, place_of, place_or_none, values_stored};
 ghost use Rattle.nxt_texts.specs.Packing.{packed_front, packed_fronts, Unpacks, UnpackAll, told_in};
 
 use crate::operands::set_unless_left_out;
 use crate::text::{store_text, text_of};
-use nxt_space::{Flat, OpFault, Path, Space};
+use nxt_operands::reading::flat_of;
+use nxt_operands::storing::store;
+use nxt_space::{Flat, OpFault, Space};
 use nxt_types::kind::Kind;
 use nxt_types::numbers::{extend, leaf_size, wrap};
 use nxt_types::shape::Shape;
-use nxt_types::toc::Toc;
 use nxt_types::{Bytes, NoMemory};
 use std::alloc::Global;
 
 // ---- packing
 
 /// Stores the bytes of a value without lists, low bytes first and members in order, and a zero.
-pub fn flatten(
-    alloc: Global,
-    toc: &Toc,
-    space: &mut Space,
-    dest: u16,
-    value: u16,
-) -> Result<(), OpFault>
-    requires of { AreOf toc.now space.old }
+pub fn flatten(alloc: Global, space: &mut Space, dest: u16, value: u16) -> Result<(), OpFault>
+    requires sound { AreSound space.old }
     requires dest { IsSome (name_of space.old dest) }
     requires value { IsSome (name_of space.old value) }
     requires text { is_text (shape_of space.old dest) ≡ true }
     requires no_list { has_list (shape_of space.old value) ≡ false }
     ensures { (d : Devices) → Does Done (values_stored space.old (place_of space.old dest ∷ []) (flatten_means d (given space.old dest) (given space.old value))) space.old result space.new }
 {
-    let Ok(bytes) = packed_of(alloc, toc, space, value) else {
-        return Err(OpFault::NoMemory);
-    };
+    let bytes = packed_of(alloc, space, value)?;
     store_text(alloc, space, dest, bytes.as_slice())
 }
 
 // The bytes of a value without lists.
-fn packed_of(alloc: Global, toc: &Toc, space: &Space, i: u16) -> Result<Bytes, NoMemory>
-    requires of { AreOf toc.now space.now }
+fn packed_of(alloc: Global, space: &Space, i: u16) -> Result<Bytes, NoMemory>
+    requires sound { AreSound space.now }
     requires named { IsSome (name_of space.now i) }
     requires no_list { has_list (shape_of space.now i) ≡ false }
     ensures { IfOk result (λ bytes. bytes ≡ packed (shape_of space.now i) (value_of space.now i)) }
 {
     let mut bytes = Bytes::new(alloc);
-    let Some(shape) = toc.shape(i) else {
+    let Some(shape) = space.shape(i) else {
         return Ok(bytes);
     };
-    let numbers = numbers_of(alloc, space, i)?;
-    pack(shape, numbers.as_slice(), &mut bytes)?;
+    let flat = flat_of(alloc, space, i)?;
+    pack(shape, flat.as_slice(), &mut bytes)?;
     Ok(bytes)
-}
-
-// The flat form of a value.
-fn numbers_of(alloc: Global, space: &Space, i: u16) -> Result<Flat, NoMemory>
-    requires { IsSome (name_of space.now i) }
-    ensures { IfOk result (λ flat. flat ≡ flat_form (value_of space.now i)) }
-{
-    let mut flat = Flat::new(alloc);
-    let path = Path {
-        var: i,
-        steps: Flat::new(alloc),
-    };
-    space.gather(&path, &mut flat)?;
-    Ok(flat)
 }
 
 // Adds the bytes of the value that the numbers begin with, and gives the numbers behind it.
@@ -137,14 +114,13 @@ fn behind_first(from: &[i64]) -> &[i64]
 /// other value, and the error 1.
 pub fn unflatten(
     alloc: Global,
-    toc: &Toc,
     space: &mut Space,
     dest: u16,
     error: u16,
     source: u16,
     kind_of: u16,
 ) -> Result<(), OpFault>
-    requires of { AreOf toc.now space.old }
+    requires sound { AreSound space.old }
     requires dest { IsSome (name_of space.old dest) }
     requires source { IsSome (name_of space.old source) }
     requires kind_of { IsSome (name_of space.old kind_of) }
@@ -154,29 +130,23 @@ pub fn unflatten(
     requires fit { convertible (shape_of space.old dest) (shape_of space.old kind_of) ≡ true }
     ensures { (d : Devices) → Does Done (values_stored space.old (place_of space.old dest ∷ place_or_none space.old error ∷ []) (unflatten_means d (given space.old dest) (given_or_left space.old error) (given space.old source) (given space.old kind_of))) space.old result space.new }
 {
-    let Ok(text) = text_of(alloc, space, source) else {
-        return Err(OpFault::NoMemory);
-    };
-    let Ok(found) = unpacked_of(alloc, toc, kind_of, text.as_slice()) else {
-        return Err(OpFault::NoMemory);
-    };
+    let text = text_of(alloc, space, source)?;
+    let found = unpacked_of(alloc, space, kind_of, text.as_slice())?;
     match found {
         Some(flat) => store_and_tell(space, dest, &flat, error, 0),
         None => {
-            let Ok(flat) = numbers_of(alloc, space, kind_of) else {
-                return Err(OpFault::NoMemory);
-            };
+            let flat = flat_of(alloc, space, kind_of)?;
             store_and_tell(space, dest, &flat, error, 1)
         }
     }
 }
 
 // The flat form of the value of another one's shape that the bytes begin with; none where there are too few.
-fn unpacked_of(alloc: Global, toc: &Toc, i: u16, bytes: &[u8]) -> Result<Option<Flat>, NoMemory>
-    requires { IsSome (name_among toc.now.shapes 0 i) }
-    ensures { IfOk result (λ found. MatchOption found (length bytes.now < packed_size (shape_in toc.now i)) (λ flat. (packed_size (shape_in toc.now i) ≤ length bytes.now) × (flat ≡ flat_form (unpacked (shape_in toc.now i) bytes.now)))) }
+fn unpacked_of(alloc: Global, space: &Space, i: u16, bytes: &[u8]) -> Result<Option<Flat>, NoMemory>
+    requires { IsSome (name_of space.now i) }
+    ensures { IfOk result (λ found. MatchOption found (length bytes.now < packed_size (shape_of space.now i)) (λ flat. (packed_size (shape_of space.now i) ≤ length bytes.now) × (flat ≡ flat_form (unpacked (shape_of space.now i) bytes.now)))) }
 {
-    let Some(shape) = toc.shape(i) else {
+    let Some(shape) = space.shape(i) else {
         return Ok(None);
     };
     let mut flat = Flat::new(alloc);
@@ -254,10 +224,7 @@ fn store_and_tell(
     requires countable { IsCountable (size_of_filled (shape_of space.old dest) flat.now) }
     ensures { Does Done (told_in space.old error told (with_value space.old dest (filled (shape_of space.old dest) flat.now).0)) space.old result space.new }
 {
-    match space.store(dest, flat) {
-        Ok(()) => {}
-        Err(passed) => return Err(OpFault::PoolPassed(passed.0)),
-    }
+    store(space, dest, flat)?;
     set_unless_left_out(space, error, told);
     Ok(())
 }

@@ -4,29 +4,27 @@ ghost use Rattle.std.specs.Prelude.{◌≡◌, ◌∷◌, ◌*◌, ◌<◌, ◌^
 ghost use Rattle.nxt_types.specs.Calls.{is_text};
 ghost use Rattle.nxt_model.specs.Devices.{Devices};
 ghost use Rattle.nxt_model.specs.Means.Strings.{concatenate as concatenate_means, substring as substring_means, string_to_array as to_array_means, array_to_string as to_string_means};
-ghost use Rattle.nxt_model.specs.Footprint.{round4};
 ghost use Rattle.nxt_space.specs.Variables.{AreSound, name_of, shape_of};
 ghost use Rattle.nxt_space.specs.Outcomes.{Does};
-ghost use Rattle.nxt_ops.specs.Ops.{AreOf, Done, given};
-ghost use Rattle.nxt_ops.specs.Operands.{given_or_left, place_of, values_stored};
+ghost use Rattle.nxt_operands.specs.Operands.{Done, given, given_or_left, place_of, values_stored};
 ghost use Rattle.nxt_texts.specs.Texts.{bodies_at};
 
 use crate::text::{body, section, store_bytes, store_text, text_of};
-use nxt_ops::operands::{stride_at, word_or};
+use nxt_operands::operands::word_or;
+use nxt_operands::storing::check_room;
+use nxt_space::sizing::NONE;
 use nxt_space::{OpFault, Space};
-use nxt_types::toc::Toc;
 use nxt_types::{Bytes, NoMemory};
 use std::alloc::Global;
 
 /// Stores the bodies of texts, one after another, and a zero.
 pub fn concatenate(
     alloc: Global,
-    toc: &Toc,
     space: &mut Space,
     dest: u16,
     sources: &[u16],
 ) -> Result<(), OpFault>
-    requires of { AreOf toc.now space.old }
+    requires sound { AreSound space.old }
     requires dest { IsSome (name_of space.old dest) }
     requires text { is_text (shape_of space.old dest) ≡ true }
     requires few { length sources.now < 2 ^ 16 }
@@ -34,19 +32,11 @@ pub fn concatenate(
     requires texts { All (λ i. is_text (shape_of space.old i) ≡ true) sources.now }
     ensures { (d : Devices) → Does Done (values_stored space.old (place_of space.old dest ∷ []) (concatenate_means d (given space.old dest ∷ map (given space.old) sources.now))) space.old result space.new }
 {
-    let Ok(length) = bodies_length(alloc, space, sources) else {
-        return Err(OpFault::NoMemory);
-    };
-
     // The pool is asked before the bodies are put together, since they may be far longer than it.
-    let block = block_bytes(length + 1, stride_at(toc, dest));
-    if let Err(passed) = space.room(dest, block, 1) {
-        return Err(OpFault::PoolPassed(passed.0));
-    }
+    let length = bodies_length(alloc, space, sources)?;
+    check_room(space, dest, length + 1, NONE)?;
 
-    let Ok(bytes) = bodies(alloc, space, sources) else {
-        return Err(OpFault::NoMemory);
-    };
+    let bytes = bodies(alloc, space, sources)?;
     store_text(alloc, space, dest, bytes.as_slice())
 }
 
@@ -67,9 +57,7 @@ pub fn substring(
     requires source_text { is_text (shape_of space.old source) ≡ true }
     ensures { (d : Devices) → Does Done (values_stored space.old (place_of space.old dest ∷ []) (substring_means d (given space.old dest) (given space.old source) (given_or_left space.old at) (given_or_left space.old count))) space.old result space.new }
 {
-    let Ok(text) = text_of(alloc, space, source) else {
-        return Err(OpFault::NoMemory);
-    };
+    let text = text_of(alloc, space, source)?;
     let bytes = body(text.as_slice());
     let at = word_or(space, at, 0);
     let count = word_or(space, count, bytes.len() as u32);
@@ -90,9 +78,7 @@ pub fn string_to_array(
     requires source_text { is_text (shape_of space.old source) ≡ true }
     ensures { (d : Devices) → Does Done (values_stored space.old (place_of space.old dest ∷ []) (to_array_means d (given space.old dest) (given space.old source))) space.old result space.new }
 {
-    let Ok(text) = text_of(alloc, space, source) else {
-        return Err(OpFault::NoMemory);
-    };
+    let text = text_of(alloc, space, source)?;
     store_bytes(alloc, space, dest, body(text.as_slice()))
 }
 
@@ -110,9 +96,7 @@ pub fn array_to_string(
     requires source_text { is_text (shape_of space.old source) ≡ true }
     ensures { (d : Devices) → Does Done (values_stored space.old (place_of space.old dest ∷ []) (to_string_means d (given space.old dest) (given space.old source))) space.old result space.new }
 {
-    let Ok(text) = text_of(alloc, space, source) else {
-        return Err(OpFault::NoMemory);
-    };
+    let text = text_of(alloc, space, source)?;
     store_text(alloc, space, dest, text.as_slice())
 }
 
@@ -146,12 +130,4 @@ fn bodies(alloc: Global, space: &Space, sources: &[u16]) -> Result<Bytes, NoMemo
         bytes.append(body(text.as_slice()))?;
     }
     Ok(bytes)
-}
-
-// The bytes of the pool that a list of so many elements takes.
-fn block_bytes(count: u64, stride: u32) -> u64
-    requires { count < 2 ^ 32 }
-    ensures { result ≡ round4 (count * stride) }
-{
-    (count * u64::from(stride)).div_ceil(4) * 4
 }

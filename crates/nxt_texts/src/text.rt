@@ -3,12 +3,14 @@
 ghost use Rattle.std.specs.Prelude.{◌≡◌, ◌+◌, ◌<◌, ◌≤◌, ◌^◌, true, map, length, drop, All, IfOk, IsSome};
 ghost use Rattle.nxt_types.specs.Arithmetic.{word};
 ghost use Rattle.nxt_types.specs.Calls.{is_text};
-ghost use Rattle.nxt_model.specs.Footprint.{pool_size};
+ghost use Rattle.nxt_types.specs.Pool.{pool_size};
 ghost use Rattle.nxt_model.specs.Means.Text.{body as body_of, ended, section as section_of};
 ghost use Rattle.nxt_space.specs.Variables.{AreSound, name_of, shape_of};
 ghost use Rattle.nxt_texts.specs.Texts.{IsByte, StoresBytes, flat_bytes, text_at};
 
-use nxt_space::{Flat, OpFault, Path, Space};
+use nxt_operands::reading::numbers_of;
+use nxt_operands::storing::store;
+use nxt_space::{Flat, OpFault, Space};
 use nxt_types::{Bytes, NoMemory};
 use std::alloc::Global;
 
@@ -22,13 +24,8 @@ pub fn text_of(alloc: Global, space: &Space, i: u16) -> Result<Bytes, NoMemory>
     ensures bytes { IfOk result (λ bytes. bytes ≡ text_at space.now i) }
     ensures few { IfOk result (λ bytes. length bytes ≤ pool_size) }
 {
-    let mut flat = Flat::new(alloc);
-    let path = Path {
-        var: i,
-        steps: Flat::new(alloc),
-    };
-    space.gather(&path, &mut flat)?;
-    bytes_from(alloc, &flat.as_slice()[1..])
+    let numbers = numbers_of(alloc, space, i)?;
+    bytes_from(alloc, numbers.as_slice())
 }
 
 // Numbers that are bytes, as bytes.
@@ -83,9 +80,7 @@ pub fn store_text(alloc: Global, space: &mut Space, dest: u16, bytes: &[u8]) -> 
     requires few { length bytes.now + 1 < 2 ^ 32 }
     ensures { StoresBytes space.old dest (ended bytes.now) result space.new }
 {
-    let Ok(text) = with_zero(alloc, bytes) else {
-        return Err(OpFault::NoMemory);
-    };
+    let text = with_zero(alloc, bytes)?;
     store_bytes(alloc, space, dest, text.as_slice())
 }
 
@@ -106,13 +101,8 @@ pub fn store_bytes(alloc: Global, space: &mut Space, dest: u16, bytes: &[u8]) ->
     requires few { length bytes.now < 2 ^ 32 }
     ensures { StoresBytes space.old dest bytes.now result space.new }
 {
-    let Ok(flat) = flat_of(alloc, bytes) else {
-        return Err(OpFault::NoMemory);
-    };
-    match space.store(dest, &flat) {
-        Ok(()) => Ok(()),
-        Err(passed) => Err(OpFault::PoolPassed(passed.0)),
-    }
+    let flat = flat_of(alloc, bytes)?;
+    store(space, dest, &flat)
 }
 
 // The flat form of a list of bytes.

@@ -11,11 +11,11 @@ use Rattle.nxt_model.specs.Means.Strings.{concatenate}
 use Rattle.nxt_model.specs.Values.{Value}
 use Rattle.nxt_space.specs.Variables.{name_of, shape_of}
 use Rattle.nxt_space.specs.Outcomes.{Does}
-use Rattle.nxt_ops.specs.Ops.{Done, given}
-use Rattle.nxt_ops.specs.Operands.{place_of, values_stored}
-use Rattle.nxt_ops.proofs.Fitting.{named_some}
+use Rattle.nxt_operands.specs.Operands.{Done, given, place_of, values_stored}
+use Rattle.nxt_operands.proofs.Named.{named_some}
 use Rattle.nxt_arrays.specs.Arrays.{runs}
 use Rattle.nxt_arrays.proofs.Fitting as fits
+use Rattle.nxt_arrays.proofs.SeveralFitting as several
 use Rattle.nxt_arrays.proofs.Meanings as meanings
 use Rattle.nxt_arrays.proofs.run.run_array.Goals as goal
 
@@ -47,7 +47,7 @@ replace-requires c =
     let i = c.args.i.now in
     let f = fits.replace_fit s i c.args.words.now c.in-Replace.is c.requires.fit in
     record {
-      of = record { shapes = c.requires.shapes; sound = c.requires.sound };
+      sound = c.requires.sound;
       dest = named_some s i.a f.two.first.named;
       list = named_some s i.b f.two.second.named;
       new = named_some s i.d f.new.second.named;
@@ -108,7 +108,7 @@ initialize-requires c =
     let i = c.args.i.now in
     let f = fits.initialize_fit s i c.args.words.now c.in-Arrinit.is c.requires.fit in
     record {
-      of = record { shapes = c.requires.shapes; sound = c.requires.sound };
+      sound = c.requires.sound;
       dest = named_some s i.a f.two.first.named;
       value = named_some s i.b f.two.second.named;
       count = named_some s i.c f.count.named;
@@ -137,7 +137,7 @@ flatten-requires c =
     let i = c.args.i.now in
     let f = fits.flatten_fit s i c.args.words.now c.in-Flatten.is c.requires.fit in
     record {
-      of = record { shapes = c.requires.shapes; sound = c.requires.sound };
+      sound = c.requires.sound;
       dest = named_some s i.a f.first.named;
       value = named_some s i.b f.second.named;
       text = f.first.has;
@@ -157,7 +157,7 @@ unflatten-requires c =
     let i = c.args.i.now in
     let f = fits.unflatten_fit s i c.args.words.now c.in-Unflatten.is c.requires.fit in
     record {
-      of = record { shapes = c.requires.shapes; sound = c.requires.sound };
+      sound = c.requires.sound;
       dest = named_some s i.a f.two.first.named;
       source = named_some s i.c f.source.named;
       kind_of = named_some s i.d f.two.second.named;
@@ -305,10 +305,10 @@ pub build-requires : goal.build-requires
 build-requires c =
     let s = c.args.space.now in
     let i = c.args.i.now in
-    let f = fits.build_fit s i c.args.words.now c.in-Arrbuild.is c.requires.fit in
+    let f = several.build_fit s i c.args.words.now c.in-Arrbuild.is c.requires.fit in
     let is = sym c.sources_of.ensures.sources in
     record {
-      of = record { shapes = c.requires.shapes; sound = c.requires.sound };
+      sound = c.requires.sound;
       dest = named_some s i.a f.first.named;
       of_list = f.first.has;
       few = c.sources_of.ensures.few;
@@ -320,7 +320,7 @@ pub returns-in-Arrbuild : goal.returns-in-Arrbuild
 returns-in-Arrbuild c d t =
     let s = c.args.space.now in
     let i = c.args.i.now in
-    let means = meanings.build_means s i c.args.words.now d t c.in-Arrbuild.is (fits.build_fit s i c.args.words.now c.in-Arrbuild.is c.requires.fit) in
+    let means = meanings.build_means s i c.args.words.now d t c.in-Arrbuild.is (several.build_fit s i c.args.words.now c.in-Arrbuild.is c.requires.fit) in
     let stored : List ℕ → Value = λ ws. values_stored s (place_of s i.a ∷ []) (build d (given s i.a ∷ map (given s) ws)) in
     subst (λ v. Does Done v s c.build.result c.build.new.space) (ap stored c.sources_of.ensures.sources ∙ sym means) (c.build.ensures d)
 
@@ -328,10 +328,10 @@ pub concatenate-requires : goal.concatenate-requires
 concatenate-requires c =
     let s = c.args.space.now in
     let i = c.args.i.now in
-    let f = fits.concatenate_fit s i c.args.words.now c.in-Strcat.is c.requires.fit in
+    let f = several.concatenate_fit s i c.args.words.now c.in-Strcat.is c.requires.fit in
     let is = sym c.sources_of-in-Strcat.ensures.sources in
     record {
-      of = record { shapes = c.requires.shapes; sound = c.requires.sound };
+      sound = c.requires.sound;
       dest = named_some s i.a f.first.named;
       text = f.first.has;
       few = c.sources_of-in-Strcat.ensures.few;
@@ -343,6 +343,6 @@ pub returns-in-Strcat : goal.returns-in-Strcat
 returns-in-Strcat c d t =
     let s = c.args.space.now in
     let i = c.args.i.now in
-    let means = meanings.concatenate_means s i c.args.words.now d t c.in-Strcat.is (fits.concatenate_fit s i c.args.words.now c.in-Strcat.is c.requires.fit) in
+    let means = meanings.concatenate_means s i c.args.words.now d t c.in-Strcat.is (several.concatenate_fit s i c.args.words.now c.in-Strcat.is c.requires.fit) in
     let stored : List ℕ → Value = λ ws. values_stored s (place_of s i.a ∷ []) (concatenate d (given s i.a ∷ map (given s) ws)) in
     subst (λ v. Does Done v s c.concatenate.result c.concatenate.new.space) (ap stored c.sources_of-in-Strcat.ensures.sources ∙ sym means) (c.concatenate.ensures d)

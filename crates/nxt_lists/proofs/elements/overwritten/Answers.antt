@@ -6,7 +6,7 @@ use mir.Val.{SFits}
 use Rattle.nxt_model.specs.Means.Arrays.{pieces}
 use Rattle.nxt_model.specs.Values.{elements, flat}
 use Rattle.nxt_space.specs.Variables.{shape_of, value_of}
-use Rattle.nxt_ops.specs.Ops.{given}
+use Rattle.nxt_operands.specs.Operands.{given}
 use Rattle.nxt_lists.proofs.Between.{overwritten_flat}
 use Rattle.nxt_lists.proofs.elements.overwritten.Goals as goal
 

@@ -1,31 +1,27 @@
 -- By their shapes both are numbers, or both are lists of numbers.
-use Rattle.std.proofs.Common.{rules, ◌≡◌, w64, sym, ap, ap₂, ◌∙◌}
+use Rattle.std.proofs.Common.{rules, ◌≡◌, w64, sym, ap₂, ◌∙◌}
 use Rattle.std.proofs.Math.Facts.{to_z-of_z}
 use mir.Val.{SFits}
 use Rattle.nxt_types.specs.Arithmetic.{compare, compares}
-use Rattle.nxt_types.specs.Shapes.{is_number}
 use Rattle.nxt_model.specs.Means.Effects.{element}
 use Rattle.nxt_model.specs.Means.Numbers.{signed_kind, either_signed}
 use Rattle.nxt_space.specs.Variables.{shape_of, value_of}
-use Rattle.nxt_ops.specs.Ops.{deciding_numbers, shape_in}
+use Rattle.nxt_ops.specs.Ops.{deciding_numbers}
 use Rattle.nxt_ops.proofs.DecidingNumbers.{numbers_held, lists_held}
-use Rattle.nxt_ops.proofs.NumberLists.{alike_numbers, shape_there, variable_numbers}
+use Rattle.nxt_operands.proofs.NumberLists.{alike_numbers, variable_numbers}
 use Rattle.nxt_ops.proofs.Signs.{first_holds, second_tells}
 use Rattle.nxt_ops.proofs.comparing.holds.Goals.{then-has_sign, else-has_sign, then-has_signed_elements, else-has_signed_elements}
 use Rattle.nxt_ops.proofs.comparing.holds.Goals as goal
 
 pub returns-then-is_number : goal.returns-then-is_number
 returns-then-is_number c =
-    let toc = c.args.toc.now in
     let s = c.args.space.now in
-    let sx = shape_there toc s c.args.x c.requires.of in
-    let sy = shape_there toc s c.args.y c.requires.of in
     let x = value_of s c.args.x in
     let y = value_of s c.args.y in
     let fx : SFits w64 c.get.result = search rules in
     let fy : SFits w64 c.get-then-is_number.result = search rules in
-    let a = signed_kind (shape_in toc c.args.x) in
-    let b = signed_kind (shape_in toc c.args.y) in
+    let a = signed_kind (shape_of s c.args.x) in
+    let b = signed_kind (shape_of s c.args.y) in
     let signed : c.if-has_sign.signed ≡ either_signed (shape_of s c.args.x) (shape_of s c.args.y) =
     elim c.if-has_sign.branch [
       | then-has_sign w ↦ first_holds a b c.has_sign.result c.if-has_sign.signed c.has_sign.ensures w.if-has_sign.true w.signed-is
@@ -41,7 +37,6 @@ returns-then-is_number c =
           w.has_sign-signed.ensures
           w.signed-is
     ]
-    ∙ ap₂ either_signed sx sy
     in
     c.compare.ensures
     ∙ ap₂ (compare c.args.cmp c.if-has_sign.signed) (to_z-of_z fx ∙ c.get.ensures) (to_z-of_z fy ∙ c.get-then-is_number.ensures)
@@ -52,35 +47,30 @@ returns-then-is_number c =
     x
     y
     c.if-has_sign.signed
-    (sym (ap is_number sx) ∙ sym c.is_number.ensures ∙ c.if-is_number.true)
+    (sym c.is_number.ensures ∙ c.if-is_number.true)
     signed
 
 pub numbers_of-requires-clause-list : goal.numbers_of-requires-clause-list
 numbers_of-requires-clause-list c =
-    let toc = c.args.toc.now in
     let s = c.args.space.now in
-    let other = sym (ap is_number (shape_there toc s c.args.x c.requires.of)) ∙ sym c.is_number.ensures ∙ c.if-is_number.false in
-    variable_numbers s c.args.x c.requires.of.sound c.requires.x (alike_numbers (shape_of s c.args.x) (shape_of s c.args.y) c.requires.fit other).0
+    let other = sym c.is_number.ensures ∙ c.if-is_number.false in
+    variable_numbers s c.args.x c.requires.sound c.requires.x (alike_numbers (shape_of s c.args.x) (shape_of s c.args.y) c.requires.fit other).0
 
 pub numbers_of-requires-2-clause-list : goal.numbers_of-requires-2-clause-list
 numbers_of-requires-2-clause-list c =
-    let toc = c.args.toc.now in
     let s = c.args.space.now in
-    let other = sym (ap is_number (shape_there toc s c.args.x c.requires.of)) ∙ sym c.is_number.ensures ∙ c.if-is_number.false in
-    variable_numbers s c.args.y c.requires.of.sound c.requires.y (alike_numbers (shape_of s c.args.x) (shape_of s c.args.y) c.requires.fit other).1
+    let other = sym c.is_number.ensures ∙ c.if-is_number.false in
+    variable_numbers s c.args.y c.requires.sound c.requires.y (alike_numbers (shape_of s c.args.x) (shape_of s c.args.y) c.requires.fit other).1
 
 pub returns : goal.returns
 returns c =
-    let toc = c.args.toc.now in
     let s = c.args.space.now in
-    let sx = shape_there toc s c.args.x c.requires.of in
-    let sy = shape_there toc s c.args.y c.requires.of in
     let x = value_of s c.args.x in
     let y = value_of s c.args.y in
     let f0 : SFits w64 c.deciding-a.result.0 = search rules in
     let f1 : SFits w64 c.deciding-a.result.1 = search rules in
-    let a = signed_kind (element (shape_in toc c.args.x)) in
-    let b = signed_kind (element (shape_in toc c.args.y)) in
+    let a = signed_kind (element (shape_of s c.args.x)) in
+    let b = signed_kind (element (shape_of s c.args.y)) in
     let either = c.if-has_signed_elements.signed in
     let signed : either ≡ either_signed (element (shape_of s c.args.x)) (element (shape_of s c.args.y)) =
     elim c.if-has_signed_elements.branch [
@@ -105,7 +95,6 @@ returns c =
           w.has_signed_elements-signed.ensures
           w.signed-is
     ]
-    ∙ ap₂ (λ p q. either_signed (element p) (element q)) sx sy
     in
     c.compares.ensures
     ∙ ap₂ (compares c.args.cmp) (to_z-of_z f0) (to_z-of_z f1)
@@ -118,7 +107,7 @@ returns c =
     either
     c.deciding-a.result
     c.requires.fit
-    (sym (ap is_number sx) ∙ sym c.is_number.ensures ∙ c.if-is_number.false)
+    (sym c.is_number.ensures ∙ c.if-is_number.false)
     signed
     (c.deciding-a.ensures
     ∙ ap₂ (deciding_numbers either) (c.as_slice.ensures ∙ c.in_ok-xs.ensures) (c.as_slice-2.ensures ∙ c.in_ok-ys.ensures))

@@ -1,9 +1,10 @@
 -- Each word is cut to the kind of the list's elements.
 use Rattle.nxt_space.specs.Variables.{shape_of, value_of}
-use Rattle.nxt_ops.specs.Ops.{given, value_of_one}
-use Rattle.nxt_ops.proofs.Counting.{sound_part}
-use Rattle.nxt_ops.proofs.Storing.{flat_stored, flat_refused}
-use Rattle.nxt_ops.proofs.NumberLists.{are_numbers}
+use Rattle.nxt_operands.specs.Operands.{given}
+use Rattle.nxt_operands.proofs.Counting.{sound_part}
+use Rattle.nxt_operands.proofs.NumberLists.{are_numbers}
+use Rattle.nxt_operands.proofs.Stored.{spelled_stored}
+use Rattle.nxt_ops.specs.Ops.{value_of_one}
 use Rattle.nxt_ops.proofs.Words.{are_lists, one_storable}
 use Rattle.nxt_ops.proofs.lists.map_list.Goals as goal
 
@@ -11,22 +12,15 @@ pub mapped-requires-clause-list : goal.mapped-requires-clause-list
 mapped-requires-clause-list c =
     let s = c.args.space.now in
     let lists = are_lists (shape_of s c.args.dest) (shape_of s c.args.x) c.requires.list c.requires.fit in
-    are_numbers (shape_of s c.args.x) (value_of s c.args.x) lists.source (sound_part s c.args.x c.requires.of.sound c.requires.x).of
+    are_numbers (shape_of s c.args.x) (value_of s c.args.x) lists.source (sound_part s c.args.x c.requires.sound c.requires.x).of
 
 pub store-requires-clause-countable : goal.store-requires-clause-countable
 store-requires-clause-countable c =
-    (one_storable c.args.toc.now c.args.space.now c.args.operator c.args.dest c.args.x c.has_signed_elements-signed.result c.in-Ok.flat c.requires.of c.requires.dest c.requires.x c.requires.list c.requires.fit c.has_signed_elements-signed.ensures c.in-Ok.ensures).countable
-
-pub returns-in-Ok-store : goal.returns-in-Ok-store
-returns-in-Ok-store c =
-    let s = c.args.space.now in
-    let v = value_of_one c.args.operator (shape_of s c.args.dest) (given s c.args.x) in
-    let e = one_storable c.args.toc.now s c.args.operator c.args.dest c.args.x c.has_signed_elements-signed.result c.in-Ok.flat c.requires.of c.requires.dest c.requires.x c.requires.list c.requires.fit c.has_signed_elements-signed.ensures c.in-Ok.ensures in
-    flat_stored s c.store.new.self c.args.dest v c.in-Ok.flat e c.in-Ok-store.ensures
+    (one_storable c.args.space.now c.args.operator c.args.dest c.args.x c.has_signed_elements-signed.result c.in_ok-flat.flat c.requires.sound c.requires.dest c.requires.x c.requires.list c.requires.fit c.has_signed_elements-signed.ensures c.in_ok-flat.ensures).countable
 
 pub returns : goal.returns
 returns c =
     let s = c.args.space.now in
     let v = value_of_one c.args.operator (shape_of s c.args.dest) (given s c.args.x) in
-    let e = one_storable c.args.toc.now s c.args.operator c.args.dest c.args.x c.has_signed_elements-signed.result c.in-Ok.flat c.requires.of c.requires.dest c.requires.x c.requires.list c.requires.fit c.has_signed_elements-signed.ensures c.in-Ok.ensures in
-    flat_refused s c.store.new.self c.args.dest v c.in-Ok.flat c.in-Err-store.passed.0 e c.in-Err-store.ensures
+    let e = one_storable s c.args.operator c.args.dest c.args.x c.has_signed_elements-signed.result c.in_ok-flat.flat c.requires.sound c.requires.dest c.requires.x c.requires.list c.requires.fit c.has_signed_elements-signed.ensures c.in_ok-flat.ensures in
+    spelled_stored s c.store.new.space c.args.dest v c.in_ok-flat.flat c.store.result e c.store.ensures

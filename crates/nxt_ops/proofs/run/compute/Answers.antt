@@ -10,16 +10,18 @@ use Rattle.nxt_types.specs.declared.instr.Op.TheVariants as ops
 use Rattle.nxt_model.specs.Values.{Num, stored}
 use Rattle.nxt_space.specs.Variables.{shape_of, with_value}
 use Rattle.nxt_space.specs.Outcomes.{Does}
-use Rattle.nxt_ops.specs.Ops.{Done, asked_of_two, runs, stores, two_of, one_of}
-use Rattle.nxt_ops.proofs.Fitting.{ThreeFit, Alike, named_some, two_fit, one_fit, mov_fit, set_fit}
+use Rattle.nxt_ops.specs.Ops.{asked_of_two, runs, stores, two_of, one_of}
+use Rattle.nxt_operands.specs.Operands.{Done}
+use Rattle.nxt_ops.proofs.Fitting.{ThreeFit, Alike, two_fit, one_fit, mov_fit, set_fit}
+use Rattle.nxt_operands.proofs.Named.{named_some}
 use Rattle.nxt_ops.proofs.Meanings.{two_means, one_means, mov_means, set_means, only_set}
-use Rattle.nxt_ops.proofs.Storing.{number_set}
+use Rattle.nxt_operands.proofs.Stored.{number_set}
 use Rattle.nxt_ops.proofs.run.compute.Goals as goal
 
 -- ---- two values
 
 on_two : (c : goal.After-combine-arg-1) → ThreeFit c.args.space.now c.args.i.now.a c.args.i.now.b c.args.i.now.c (asked_of_two c.in-Some.operator)
-on_two c = two_fit c.args.space.now c.args.i.now c.in-Some.operator (sym c.two_of.ensures ∙ c.in-Some.is) c.requires.run.fit
+on_two c = two_fit c.args.space.now c.args.i.now c.in-Some.operator (sym c.two_of.ensures ∙ c.in-Some.is) c.requires.fit
 
 pub combine-requires-clause-dest : goal.combine-requires-clause-dest
 combine-requires-clause-dest c = named_some c.args.space.now c.args.i.now.a (on_two c).first
@@ -39,12 +41,12 @@ returns-in-Some c d t =
     let i = c.args.i.now in
     let o = c.in-Some.operator in
     let is = sym c.two_of.ensures ∙ c.in-Some.is in
-    subst (λ v. Does Done v s c.combine.result c.combine.new.space) (sym (two_means s i d t o is (two_fit s i o is c.requires.run.fit))) c.combine.ensures
+    subst (λ v. Does Done v s c.combine.result c.combine.new.space) (sym (two_means s i d t o is (two_fit s i o is c.requires.fit))) c.combine.ensures
 
 -- ---- one value
 
 on_one : (c : goal.After-change-arg-1) → Alike c.args.space.now c.args.i.now.a c.args.i.now.b
-on_one c = one_fit c.args.space.now c.args.i.now c.in-Some-one_of.operator (sym c.one_of.ensures ∙ c.in-Some-one_of.is) c.requires.run.fit
+on_one c = one_fit c.args.space.now c.args.i.now c.in-Some-one_of.operator (sym c.one_of.ensures ∙ c.in-Some-one_of.is) c.requires.fit
 
 pub change-requires-clause-dest : goal.change-requires-clause-dest
 change-requires-clause-dest c = named_some c.args.space.now c.args.i.now.a (on_one c).first
@@ -64,7 +66,7 @@ returns-in-Some-one_of c d t =
     let i = c.args.i.now in
     let o = c.in-Some-one_of.operator in
     let is = sym c.one_of.ensures ∙ c.in-Some-one_of.is in
-    subst (λ v. Does Done v s c.change.result c.change.new.space) (sym (one_means s i d t o is (one_fit s i o is c.requires.run.fit))) c.change.ensures
+    subst (λ v. Does Done v s c.change.result c.change.new.space) (sym (one_means s i d t o is (one_fit s i o is c.requires.fit))) c.change.ensures
 
 -- ---- moves
 
@@ -72,20 +74,20 @@ is_mov : (c : goal.After-copy-arg-1) → c.args.i.now.op ≡ ops.Mov
 is_mov c = same_true the_type (search rules) _ _ (sym c.if-eq.ensures)
 
 pub copy-requires-clause-dest : goal.copy-requires-clause-dest
-copy-requires-clause-dest c = named_some c.args.space.now c.args.i.now.a (mov_fit c.args.space.now c.args.i.now (is_mov c) c.requires.run.fit).first
+copy-requires-clause-dest c = named_some c.args.space.now c.args.i.now.a (mov_fit c.args.space.now c.args.i.now (is_mov c) c.requires.fit).first
 
 pub copy-requires-clause-source : goal.copy-requires-clause-source
-copy-requires-clause-source c = named_some c.args.space.now c.args.i.now.b (mov_fit c.args.space.now c.args.i.now (is_mov c) c.requires.run.fit).second
+copy-requires-clause-source c = named_some c.args.space.now c.args.i.now.b (mov_fit c.args.space.now c.args.i.now (is_mov c) c.requires.fit).second
 
 pub copy-requires-clause-fit : goal.copy-requires-clause-fit
-copy-requires-clause-fit c = (mov_fit c.args.space.now c.args.i.now (is_mov c) c.requires.run.fit).asked_second
+copy-requires-clause-fit c = (mov_fit c.args.space.now c.args.i.now (is_mov c) c.requires.fit).asked_second
 
 pub returns-then-eq : goal.returns-then-eq
 returns-then-eq c d t =
     let s = c.args.space.now in
     let i = c.args.i.now in
     let mov : i.op ≡ ops.Mov = same_true the_type (search rules) _ _ (sym c.if-eq.ensures) in
-    let fit = mov_fit s i mov c.requires.run.fit in
+    let fit = mov_fit s i mov c.requires.fit in
     subst (λ v. Does Done v s c.copy.result c.copy.new.space) (sym (mov_means s i d t mov fit.first fit.second)) c.copy.ensures
 
 -- the only statement left
@@ -95,17 +97,17 @@ is_set op cmp r p u v w = only_set op cmp r p u v (λ e. let f : false ≡ true 
 pub set-requires : goal.set-requires
 set-requires c =
     let i = c.args.i.now in
-    let set = is_set i.op i.cmp c.requires.run.runs c.requires.stores (sym c.two_of.ensures ∙ c.in_default.is) (sym c.one_of.ensures ∙ c.in_default-one_of.is) c.if-eq.ensures in
-    (set_fit c.args.space.now i set c.requires.run.fit).number
+    let set = is_set i.op i.cmp c.requires.runs c.requires.stores (sym c.two_of.ensures ∙ c.in_default.is) (sym c.one_of.ensures ∙ c.in_default-one_of.is) c.if-eq.ensures in
+    (set_fit c.args.space.now i set c.requires.fit).has
 
 pub returns : goal.returns
 returns c d t =
     let s = c.args.space.now in
     let i = c.args.i.now in
-    let set = is_set i.op i.cmp c.requires.run.runs c.requires.stores (sym c.two_of.ensures ∙ c.in_default.is) (sym c.one_of.ensures ∙ c.in_default-one_of.is) c.if-eq.ensures in
-    let fit = set_fit s i set c.requires.run.fit in
+    let set = is_set i.op i.cmp c.requires.runs c.requires.stores (sym c.two_of.ensures ∙ c.in_default.is) (sym c.one_of.ensures ∙ c.in_default-one_of.is) c.if-eq.ensures in
+    let fit = set_fit s i set c.requires.fit in
     let fits : SFits w64 c.from.result = search rules in
     let number = to_z-of_z {w = w64} {z = c.from.result} fits ∙ c.from.ensures in
     subst (λ v. Does Done v s (Ok tt) c.set.new.self)
     (ap {A = ℤ} (λ z. with_value s i.a (stored (shape_of s i.a) (Num z))) number ∙ sym (set_means s i d t set fit.named))
-    (number_set s c.set.new.self i.a (Num (to_z w64 (of_z w64 c.from.result))) (to_z w64 (of_z w64 c.from.result)) c.requires.run.sound fit.number refl c.set.ensures)
+    (number_set s c.set.new.self i.a (Num (to_z w64 (of_z w64 c.from.result))) (to_z w64 (of_z w64 c.from.result)) c.requires.sound fit.has refl c.set.ensures)

@@ -37,8 +37,8 @@ put-requires-clause-fits c = (can c).fits
 not_both : (o : Option Name) → IsSome o → o ≡ None → ⊥
 not_both o some none = let f : ⊥ = cc (some, ap is_some none) in f
 
-pub returns-clause-stores : goal.returns-clause-stores
-returns-clause-stores c =
+pub returns : goal.returns
+returns c =
     let toc = c.args.toc.now in
     let h = c.args.heap.now in
     let i = c.args.i in
@@ -49,8 +49,8 @@ returns-clause-stores c =
           let filled = w.put.ensures.filled in
           let is = is_variable toc h i s c.requires.stand w.in-Some.ensures in
           let g = w.put.new.heap in
-          let some : 1 ≤ length g.by_row = omega (arith, c.row_count.ensures.some, c.row_count.ensures.rows, ap (λ (f : Lists). length f.by_row) w.heap-is) in
-          let first : list_at g 0 ≡ None = ap (λ f. list_at f 0) (sym w.heap-is) ∙ c.row_count.ensures.first in
+          let some : 1 ≤ length g.by_row = omega (arith, c.row_count-rows.ensures.some, c.row_count-rows.ensures.rows, ap (λ (f : Lists). length f.by_row) w.heap-is) in
+          let first : list_at g 0 ≡ None = ap (λ f. list_at f 0) (sym w.heap-is) ∙ c.is_sound.ensures in
           subst
           (λ f. Stores toc h f (with_stored toc h i zs))
           (sym w.heap-is)

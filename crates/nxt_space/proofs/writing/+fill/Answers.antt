@@ -5,7 +5,7 @@ use Rattle.std.proofs.lemmas.Result.{IfOk-weaker}
 use Rattle.std.proofs.Math.ListN.{drop_of_length-le}
 use Rattle.nxt_types.specs.Shapes.{Number, Array, cluster_of, tree, members}
 use Rattle.nxt_types.specs.Names.{size, sizes}
-use Rattle.nxt_model.specs.Footprint.{pool_size}
+use Rattle.nxt_types.specs.Pool.{pool_size}
 use Rattle.nxt_heap.specs.Lists.{bytes_at, footprint}
 use Rattle.nxt_space.specs.Homes.{bytes_in}
 use Rattle.nxt_space.specs.Writes.{bytes_of_number}
@@ -282,8 +282,8 @@ fill_members-returns-clause-filled t c =
 
 -- ---- what the pool does not hold
 
-pub fill-returns-then-count-gt-MOST-clause-passed : goal.fill-returns-then-count-gt-MOST-clause-passed
-fill-returns-then-count-gt-MOST-clause-passed t c =
+pub fill-returns-then-count-gt-POOL_BYTES-clause-passed : goal.fill-returns-then-count-gt-POOL_BYTES-clause-passed
+fill-returns-then-count-gt-POOL_BYTES-clause-passed t c =
     let s = tree c.in-List.element.value in
     let is : tree c.args.shape.now ≡ Array c.in-List.stride s = ap tree c.in-List.is in
     let room = subst (λ w. RoomThere c.args.entries.now c.args.heap.now w c.args.at) is c.requires.room in

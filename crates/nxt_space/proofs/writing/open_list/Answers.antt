@@ -1,7 +1,7 @@
 -- The row is taken, and its list gets its bytes.
 use Rattle.std.proofs.Common.{◌<◌, length, refl, ap, ◌∙◌, arith}
 use Rattle.std.specs.Int.{to_le_bytes, w16}
-use Rattle.nxt_model.specs.Footprint.{pool_size, round4}
+use Rattle.nxt_types.specs.Pool.{pool_size, round4}
 use Rattle.nxt_heap.specs.Lists.{with_length}
 use Rattle.nxt_space.specs.Homes.{bytes_in}
 use Rattle.nxt_space.specs.Writes.{with_bytes, put}

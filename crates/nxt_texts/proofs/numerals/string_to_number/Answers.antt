@@ -3,12 +3,12 @@ use Rattle.std.proofs.Common.{◌≡◌, ℕ, ◌+◌, ◌≤◌, ℤ, length, d
 use Rattle.std.specs.Prelude.{pos, ◌+ℤ◌, option_map}
 use Rattle.std.specs.Option.{unwrap_or}
 use Rattle.std.proofs.lemmas.Int.{to_z_pos}
-use Rattle.nxt_model.specs.Footprint.{pool_size}
+use Rattle.nxt_types.specs.Pool.{pool_size}
 use Rattle.nxt_model.specs.Means.Effects.{word_or}
 use Rattle.nxt_model.specs.Means.Text.{body, number_at}
 use Rattle.nxt_model.specs.Values.{Num, stored}
 use Rattle.nxt_space.specs.Variables.{shape_of, with_value}
-use Rattle.nxt_ops.specs.Operands.{given_or_left}
+use Rattle.nxt_operands.specs.Operands.{given_or_left}
 use Rattle.nxt_texts.specs.Numerals.{numeral, numeral_at, with_number}
 use Rattle.nxt_texts.specs.Texts.{body_at}
 use Rattle.nxt_texts.specs.declared.numerals.Numeral.{Numeral}
@@ -24,14 +24,14 @@ returns c d =
     let place = c.word_or-at.result in
     let rest : c.behind.result.now ≡ drop at (body_at s c.args.source) =
     c.behind.ensures.bytes
-    ∙ ap₂ drop c.word_or-at.ensures (c.body.ensures.body ∙ ap body (c.as_slice.ensures ∙ c.in-Ok.ensures.bytes))
+    ∙ ap₂ drop c.word_or-at.ensures (c.body.ensures.body ∙ ap body (c.as_slice.ensures ∙ c.in_ok-text.ensures.bytes))
     in
     let read : found ≡ unwrap_or (option_map numeral (number_at (drop at (body_at s c.args.source)))) (default_numeral default) =
     c.unwrap_or-found.ensures
     ∙ ap₂ {B = ℕ} (λ o n. unwrap_or o (record { word = n; length = 0 })) (c.numeral_at.ensures.numeral ∙ ap numeral_at rest) c.word_or.ensures
     in
     let fits : length c.behind.result.now ≤ pool_size =
-    omega (arith, c.behind.ensures.within, c.body.ensures.within, ap length c.as_slice.ensures, c.in-Ok.ensures.few)
+    omega (arith, c.behind.ensures.within, c.body.ensures.within, ap length c.as_slice.ensures, c.in_ok-text.ensures.few)
     in
     let short : found.length ≤ pool_size =
     subst

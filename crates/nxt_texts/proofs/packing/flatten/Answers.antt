@@ -9,9 +9,9 @@ pub returns : goal.returns
 returns c =
     subst
     (λ bs. StoresBytes c.args.space.now c.args.dest (ended bs) c.store_text.result c.store_text.new.space)
-    (c.as_slice.ensures ∙ c.in-Ok.ensures)
+    (c.as_slice.ensures ∙ c.in_ok-bytes.ensures)
     c.store_text.ensures
 
 pub store_text-requires-clause-few : goal.store_text-requires-clause-few
 store_text-requires-clause-few c =
-    omega (arith, packed_bounded c.args.space.now c.args.value c.requires.of.sound, ap length (c.as_slice.ensures ∙ c.in-Ok.ensures))
+    omega (arith, packed_bounded c.args.space.now c.args.value c.requires.sound, ap length (c.as_slice.ensures ∙ c.in_ok-bytes.ensures))

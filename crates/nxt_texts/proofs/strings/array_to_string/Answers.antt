@@ -8,5 +8,5 @@ pub returns : goal.returns
 returns c =
     subst
     (λ bs. StoresBytes c.args.space.now c.args.dest (ended bs) c.store_text.result c.store_text.new.space)
-    (c.as_slice.ensures ∙ c.in-Ok.ensures.bytes)
+    (c.as_slice.ensures ∙ c.in_ok-text.ensures.bytes)
     c.store_text.ensures

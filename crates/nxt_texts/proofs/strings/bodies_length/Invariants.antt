@@ -1,6 +1,6 @@
 -- The bytes of the bodies of so many texts, each of which the pool holds.
 use Rattle.std.proofs.Common.{◌≡◌, ◌*◌, ◌≤◌, take, length}
-use Rattle.nxt_model.specs.Footprint.{pool_size}
+use Rattle.nxt_types.specs.Pool.{pool_size}
 use Rattle.nxt_texts.specs.Texts.{bodies_at}
 use Rattle.nxt_texts.proofs.strings.bodies_length.Given as goal
 

@@ -8,5 +8,5 @@ pub returns : goal.returns
 returns c =
     subst
     (λ bs. StoresBytes c.args.space.now c.args.dest bs c.store_bytes.result c.store_bytes.new.space)
-    (c.body.ensures.body ∙ ap body (c.as_slice.ensures ∙ c.in-Ok.ensures.bytes))
+    (c.body.ensures.body ∙ ap body (c.as_slice.ensures ∙ c.in_ok-text.ensures.bytes))
     c.store_bytes.ensures

@@ -7,5 +7,5 @@ pub returns : goal.returns
 returns c =
     subst
     (λ bs. StoresBytes c.args.space.now c.args.dest bs c.store_bytes.result c.store_bytes.new.space)
-    (c.as_slice.ensures ∙ c.in-Ok.ensures)
+    (c.as_slice.ensures ∙ c.in_ok-text.ensures)
     c.store_bytes.ensures

@@ -1,6 +1,0 @@
--- Only the values change.
-use Rattle.std.proofs.Common.{◌≡◌}
-use Rattle.nxt_arrays.proofs.tests.take_all.Given as goal
-
-abbrev pub invariant-loop-step : goal.invariant-loop-step
-invariant-loop-step g l = l.space.shapes ≡ l.fn.space.shapes
