@@ -13,7 +13,6 @@ use Rattle.nxt_types.specs.declared.instr.Instr.{Instr}
 use Rattle.nxt_code.specs.Decoding.{IsDecoded, placed_of}
 use Rattle.nxt_code.specs.declared.statements.Placed.{Placed}
 use Rattle.nxt_code.specs.declared.statements.Decoded.{Decoded}
-use Rattle.nxt_model.specs.Image.{statement_number}
 use Rattle.nxt_ops.specs.Ops.{runs as computes}
 use Rattle.nxt_arrays.specs.Arrays.{runs as works_on_lists}
 use Rattle.nxt_tool.specs.First.{ends, sets_motors, names_one_port, is_built, are_built}
@@ -77,15 +76,3 @@ all_built ss words (x ∷ xs) = ap₂ (λ a b. a && b) (built_same ss x.instr.op
 
 pub decoded_built : (ss : Members) (words : List ℕ) (code : Decoded) → IsDecoded words code → list_all (λ (p : Placed). is_built ss (statement_of p.instr [])) code.placed.items ≡ are_built ss (statements words)
 decoded_built ss words code d = all_built ss words code.placed.items ∙ ap (are_built ss) d.listed
-
--- ---- the number of a statement
-
-counted : (words : List ℕ) (word : ℕ) (xs : List Placed) → count_by (λ (p : Placed). nat_lt p.word word) xs ≡ statement_number (map (placed_of words) xs) word
-counted words word [] = refl
-counted words word (x ∷ xs) =
-    sum_by-cons (λ (p : Placed). cond (nat_lt p.word word) 1 0) x xs
-    ∙ ap (λ n. cond (nat_lt x.word word) 1 0 + n) (counted words word xs)
-    ∙ sym (sum_by-cons (λ (s : ℕ × Statement). cond (nat_lt s.0 word) 1 0) (placed_of words x) (map (placed_of words) xs))
-
-pub number_counted : (words : List ℕ) (code : Decoded) (word : ℕ) → IsDecoded words code → count_by (λ (p : Placed). nat_lt p.word word) code.placed.items ≡ statement_number (statements words) word
-number_counted words code word d = counted words word code.placed.items ∙ ap (λ sts. statement_number sts word) d.listed

@@ -7,7 +7,8 @@ use Rattle.nxt_types.specs.declared.kind.Cmp.{Cmp}
 use Rattle.nxt_types.specs.declared.instr.Op.TheVariants as ops
 use Rattle.nxt_types.specs.Arithmetic.{word}
 use Rattle.nxt_types.specs.Names.{Name, named}
-use Rattle.nxt_types.specs.Opcodes.{Immediate as immediate, Read, pairs_of}
+use Rattle.nxt_types.specs.Opcodes.{pairs_of}
+use Rattle.nxt_types.specs.declared.opcodes.Class.TheVariants.{Immediate as immediate, Read}
 use Rattle.nxt_types.specs.Shapes.{is_number}
 use Rattle.nxt_types.specs.Statements.{statement}
 use Rattle.nxt_model.specs.declared.line.Line.{Line}

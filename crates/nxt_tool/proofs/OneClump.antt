@@ -23,4 +23,4 @@ start_held p at =
     let rows : s.rows ≡ max s.start_rows (lists_in s.start + 1) = omega (arith, at.rows, at.enough) in
     ap (λ v. held (image_in p) (first_with s v s.rows 0)) at.values
     ∙ ap (λ n. held (image_in p) (first_with s s.start n 0)) rows
-    ∙ ap (λ k. held (image_in p) (first_with s s.start (max s.start_rows (lists_in s.start + 1)) k)) (sym (none_before (statements p.words)))
+    ∙ ap (λ k. held (image_in p) (first_with s s.start (max s.start_rows (lists_in s.start + 1)) k)) (sym (none_before (statements p.code.words)))

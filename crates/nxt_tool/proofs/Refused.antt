@@ -3,7 +3,7 @@ use Rattle.std.proofs.Common.{◌≡◌, ℕ, ◌+◌, ◌<◌, List, ap, ◌∙
 use Rattle.std.specs.Prelude.{true, nat_lt, if◌then◌else◌, option_map, slice_get}
 use Rattle.nxt_model.specs.declared.line.Stop.TheVariants.{Memory}
 use Rattle.nxt_model.specs.Values.{Value}
-use Rattle.nxt_model.specs.Footprint.{pool_size}
+use Rattle.nxt_types.specs.Pool.{pool_size}
 use Rattle.nxt_model.specs.Devices.{Devices}
 use Rattle.nxt_model.specs.Clumps.{Clumps, Mutex}
 use Rattle.nxt_model.specs.Program.{Instruction, Program, State}

@@ -13,8 +13,8 @@ use Rattle.nxt_tool.specs.declared.words.Command.{Command}
 use Rattle.nxt_tool.specs.Words.{command_of}
 use Rattle.nxt_tool.specs.First.{runs}
 use Rattle.nxt_tool.specs.Accepted.{BreaksNone, IsRun, IsSound, IsSoundFile, IsAcceptedAs, IsRefused, BreaksRule, code_in, image_of}
-use Rattle.nxt_tool.specs.declared.accept.Refusal.{Refusal}
-use Rattle.nxt_tool.specs.declared.accept.Refusal.TheVariants as refusals
+use Rattle.nxt_tool.specs.declared.fault.Refusal.{Refusal}
+use Rattle.nxt_tool.specs.declared.fault.Refusal.TheVariants as refusals
 use Rattle.nxt_types.specs.Refusals.{IsRefusal, IsAccepted}
 use Rattle.nxt_rxe.specs.declared.parts.Parts.{Parts}
 use Rattle.nxt_rxe.specs.declared.fault.RxeFault.{RxeFault}

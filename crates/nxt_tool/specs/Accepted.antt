@@ -3,20 +3,22 @@ use Rattle.std.specs.Prelude.{◌≡◌, ℕ, List, [], ◌∷◌, map, codes, d
 use Rattle.nxt_types.specs.Refusals.{IsRefusal, IsAccepted}
 use Rattle.nxt_types.specs.Shapes.{Members}
 use Rattle.nxt_rxe.specs.declared.parts.Parts.{Parts}
-use Rattle.nxt_rxe.specs.Files.{IsFile}
+use Rattle.nxt_rxe.specs.Files.{IsFile, HasCounts}
 use Rattle.nxt_rxe.specs.FileRules as file_rules
 use Rattle.nxt_layout.specs.LayoutRules as layout_rules
 use Rattle.nxt_layout.specs.Layouts.{FileLayout, IsLayout}
 use Rattle.nxt_layout.specs.Start.{HasShapes, StartsAs, rows_at_start, start_footprint}
 use Rattle.nxt_code.specs.CodeRules as code_rules
+use Rattle.nxt_code.specs.Decoding.{IsDecoded}
+use Rattle.nxt_code.specs.declared.code.Code.{Code as AcceptedCode}
 use Rattle.nxt_model.specs.Image.{Image}
 use Rattle.nxt_model.specs.Values.{Value}
 use Rattle.nxt_model.specs.LineText.{line_of}
 use Rattle.nxt_tool.specs.First.{runs}
-use Rattle.nxt_tool.specs.declared.accept.Refusal.{Refusal}
-use Rattle.nxt_tool.specs.declared.accept.Refusal.TheVariants.{Sections, Layout, Code, Unbuilt}
-use Rattle.nxt_tool.specs.declared.accept.AcceptFault.{AcceptFault}
-use Rattle.nxt_tool.specs.declared.accept.AcceptFault.TheVariants.{Refused, NoMemory}
+use Rattle.nxt_tool.specs.declared.fault.Refusal.{Refusal}
+use Rattle.nxt_tool.specs.declared.fault.Refusal.TheVariants.{Sections, Layout, Code, Unbuilt}
+use Rattle.nxt_tool.specs.declared.fault.AcceptFault.{AcceptFault}
+use Rattle.nxt_tool.specs.declared.fault.AcceptFault.TheVariants.{Refused, NoMemory}
 
 -- the clumps and the code of a file whose variables have these shapes
 abbrev pub code_in : Parts → Members → code_rules.Program
@@ -65,10 +67,15 @@ pub record IsSound (p : Parts) (size : ℕ) : Type 0 where
   pub starts : StartsAs p shapes vars
   pub size_is : size ≡ start_footprint p shapes vars
 
--- the parts break no rule, and this is their layout
-pub record IsJudged (p : Parts) (l : FileLayout) : Type 0 where
+-- the parts are those of a file and break no rule, and these are their layout and their code
+pub record IsJudged (p : Parts) (l : FileLayout) (c : AcceptedCode) : Type 0 where
+  pub counts : HasCounts p
   pub layout : IsLayout p l
   pub code : IsAccepted (code_rules.Broken (code_in p l.shapes))
+  pub words : c.words ≡ p.code
+  pub clumps : c.clumps ≡ p.clumps
+  pub dependents : c.dependents ≡ p.dependents
+  pub decoded : IsDecoded p.code c.decoded
 
 -- the bytes are a file with such parts
 abbrev pub IsSoundFile : List ℕ → ℕ → Type 0
@@ -113,13 +120,6 @@ PartsCause p (Refused r) = BreaksPart p r
 PartsCause p NoMemory = Unit {0}
 
 -- ---- lines
-
--- what the line tells: the rule's number, and the place
-abbrev pub told : Refusal → List ℕ
-told (Sections f) = file_rules.rank f
-told (Layout f) = layout_rules.rank f
-told (Code f) = code_rules.rank f
-told Unbuilt = 0 ∷ []
 
 abbrev pub accepted_line : ℕ → List ℕ
 accepted_line size = line_of (codes "accepted") (decimal size ∷ [])

@@ -8,8 +8,9 @@ use Rattle.nxt_model.specs.Report.{IsReport, setting}
 use Rattle.nxt_tool.specs.declared.words.Command.{Command}
 use Rattle.nxt_tool.specs.declared.words.Command.TheVariants.{RunRxe, Check}
 use Rattle.nxt_tool.specs.Words.{command_of}
-use Rattle.nxt_tool.specs.Accepted.{IsAcceptedAs, IsSoundFile, IsRefused, BreaksRule, accepted_line, refused_line, told}
-use Rattle.nxt_tool.specs.declared.accept.Refusal.{Refusal}
+use Rattle.nxt_tool.specs.Accepted.{IsAcceptedAs, IsSoundFile, IsRefused, BreaksRule, accepted_line, refused_line}
+use Rattle.nxt_tool.specs.Refused.{told}
+use Rattle.nxt_tool.specs.declared.fault.Refusal.{Refusal}
 use Rattle.nxt_tool.specs.Ends.{status_of}
 use Rattle.nxt_tool.specs.Plain.{held}
 use Rattle.nxt_tool.specs.Rows.{Given, given, at_first}

@@ -2,7 +2,7 @@
 use Rattle.std.specs.Prelude.{ℕ, Bool, if◌then◌else◌, nat_lt, ◌==◌, List, [], ◌∷◌, ℤ, slice_index_or, slice_set}
 use Rattle.nxt_types.specs.Arithmetic.{word}
 use Rattle.nxt_types.specs.Names.{named}
-use Rattle.nxt_types.specs.Opcodes.{Read, optional}
+use Rattle.nxt_types.specs.declared.opcodes.Class.TheVariants.{OptionalRead}
 use Rattle.nxt_model.specs.Values.{number}
 use Rattle.nxt_model.specs.Variables.{part_of, refers, read}
 use Rattle.nxt_model.specs.Devices.{set_property, update_flags, updated, motor_line}
@@ -17,7 +17,7 @@ number_at s w = number (value_of (read s.values (part_of (named s.shapes w))))
 
 -- whether a stop stops, by the word that it has
 abbrev pub halts : Variables → ℕ → Bool
-halts s w = stops_at (read s.values (refers s.shapes (optional Read) w))
+halts s w = stops_at (read s.values (refers s.shapes OptionalRead w))
 
 -- ---- motors
 

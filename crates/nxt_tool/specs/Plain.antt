@@ -11,7 +11,7 @@ use Rattle.nxt_model.specs.Image.{Image}
 use Rattle.nxt_model.specs.Program.{State}
 use Rattle.nxt_model.specs.Values.{lists_in}
 use Rattle.nxt_space.specs.Variables.{Variables}
-use Rattle.nxt_ops.specs.Ops.{AreFit}
+use Rattle.nxt_types.specs.OperandRules.{AreFit}
 use Rattle.nxt_code.specs.Decoding.{IsDecoded}
 use Rattle.nxt_tool.specs.First.{are_built}
 use Rattle.nxt_tool.specs.declared.program.Program.{Program}
@@ -44,13 +44,13 @@ AllFit ss code = (k : ℕ) (x : ℕ × Statement) → slice_get code k ≡ Some 
 pub record IsProgram (p : Program) : Type 0 where
   pub entries : p.toc.entries ≡ p.space.entries
   pub shapes : p.toc.shapes ≡ p.space.shapes
-  pub code : IsDecoded p.words p.code
-  pub fit : AllFit p.space.shapes (statements p.words)
-  pub built : are_built p.space.shapes (statements p.words) ≡ true
+  pub code : IsDecoded p.code.words p.code.decoded
+  pub fit : AllFit p.space.shapes (statements p.code.words)
+  pub built : are_built p.space.shapes (statements p.code.words) ≡ true
 
 -- the image that it runs
 abbrev pub image_in : Program → Image
-image_in p = image_of p.space p.words
+image_in p = image_of p.space p.code.words
 
 -- it is at its start
 pub record IsAtStart (p : Program) : Type 0 where

@@ -1,9 +1,14 @@
+-- The image of the program is that of the file.
 use Rattle.nxt_tool.specs.Plain.{image_in}
 use Rattle.nxt_tool.proofs.Judging.{judged_run}
 use Rattle.nxt_tool.proofs.accept.accept.Goals as goal
 
-pub returns-in-Ok-clause-accepted : goal.returns-in-Ok-clause-accepted
-returns-in-Ok-clause-accepted c =
-    let p = c.in_ok-parts.parts in
-    let judged = c.in_ok-parts.ensures in
-    (p, judged.0, judged_run p c.in_ok-parts.layout judged.1 (image_in c.in-Ok.program) c.in-Ok.ensures.runs (c.in-Ok.ensures.image judged.1.layout))
+pub returns-clause-made : goal.returns-clause-made
+returns-clause-made c = c.in_ok-program_of.ensures.made
+
+pub returns-clause-accepted : goal.returns-clause-accepted
+returns-clause-accepted c =
+    let judged = c.in_ok-layout.ensures in
+    let p = judged.0 in
+    let made = c.in_ok-program_of.ensures in
+    (p, judged.1, judged_run p c.in_ok-layout.layout c.in_ok-layout.code judged.2 (image_in c.in_ok-program_of.field-0) (made.runs p judged.2) (made.image p judged.2))

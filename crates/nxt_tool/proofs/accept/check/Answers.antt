@@ -1,3 +1,4 @@
+-- The footprint of a judged file is that of its start.
 use Rattle.std.proofs.Common.{sym, subst}
 use Rattle.nxt_tool.specs.Accepted.{IsSound}
 use Rattle.nxt_tool.proofs.Judging.{judged_sound}
@@ -5,7 +6,6 @@ use Rattle.nxt_tool.proofs.accept.check.Goals as goal
 
 pub returns : goal.returns
 returns c =
-    let p = c.in_ok-_parts._parts in
-    let l = c.in_ok-_parts.layout in
-    let judged = c.in_ok-_parts.ensures in
-    (p, judged.0, subst (IsSound p) (sym c.footprint.ensures) (judged_sound p l judged.1))
+    let judged = c.in_ok-layout.ensures in
+    let p = judged.0 in
+    (p, judged.1, subst (IsSound p) (sym c.footprint.ensures) (judged_sound p c.in_ok-layout.layout c.in_ok-layout._code judged.2))

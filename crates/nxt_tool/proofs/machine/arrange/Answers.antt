@@ -4,8 +4,8 @@ use Rattle.nxt_types.specs.Statements.{statement_of}
 use Rattle.nxt_model.specs.Devices.{at_start}
 use Rattle.nxt_model.specs.declared.line.Stop.TheVariants.{Memory}
 use Rattle.nxt_model.specs.Step.{stop}
-use Rattle.nxt_ops.specs.Ops.{Done}
-use Rattle.nxt_ops.proofs.CodeFit.{placed_at}
+use Rattle.nxt_operands.specs.Operands.{Done}
+use Rattle.nxt_code.proofs.FitStatements.{placed_at}
 use Rattle.nxt_arrays.specs.Arrays.{CanRun, values_after}
 use Rattle.nxt_space.specs.Outcomes.{Does}
 use Rattle.nxt_space.specs.declared.fault.OpFault.TheVariants.{PoolPassed}
@@ -21,35 +21,35 @@ run_array-requires c =
     let x = c.args.placed in
     subst
     (λ ws. CanRun x.instr ws p.toc p.space)
-    (sym c.as_slice.ensures)
+    (sym c.words.ensures)
     (record {
       runs = c.requires.on_lists;
       whole = whole_there p c.requires.program c.args.place x c.requires.at;
       shapes = c.requires.program.shapes;
       sound = c.requires.sound;
-      fit = c.requires.program.fit c.args.place (x.word, statement_of x.instr p.words) (placed_at p.words p.code c.requires.program.code c.args.place x c.requires.at);
+      fit = c.requires.program.fit c.args.place (x.word, statement_of x.instr p.code.words) (placed_at p.code.words p.code.decoded c.requires.program.code c.args.place x c.requires.at);
     })
 
 pub returns-in-Ok-clause-next : goal.returns-in-Ok-clause-next
 returns-in-Ok-clause-next c motors clock turn =
     let p = c.args.program.now in
     let x = c.args.placed in
-    let at = placed_at p.words p.code c.requires.program.code c.args.place x c.requires.at in
-    moved p.space p.words motors clock c.args.place turn x.word x.instr c.requires.on_lists at c.run_array.new.space
+    let at = placed_at p.code.words p.code.decoded c.requires.program.code c.args.place x c.requires.at in
+    moved p.space p.code.words motors clock c.args.place turn x.word x.instr c.requires.on_lists at c.run_array.new.space
     (subst (λ ws. Does {T = Unit {0}} Done (values_after p.space x.instr ws (devices_of motors) (record { now = clock; start = 0 })) p.space (Ok tt) c.run_array.new.space)
-    c.as_slice.ensures (c.in-Ok.ensures (devices_of motors) (record { now = clock; start = 0 })))
+    c.words.ensures (c.in-Ok.ensures (devices_of motors) (record { now = clock; start = 0 })))
 
 pub returns-in-Err-PoolPassed-clause-next : goal.returns-in-Err-PoolPassed-clause-next
 returns-in-Err-PoolPassed-clause-next c motors clock turn =
     let p = c.args.program.now in
     let x = c.args.placed in
-    let at = placed_at p.words p.code c.requires.program.code c.args.place x c.requires.at in
-    was_refused p.space p.words motors clock c.args.place turn x.word x.instr c.requires.on_lists at
+    let at = placed_at p.code.words p.code.decoded c.requires.program.code c.args.place x c.requires.at in
+    was_refused p.space p.code.words motors clock c.args.place turn x.word x.instr c.requires.on_lists at
     c.run_array.new.space c.in-Err-PoolPassed.size c.requires.sound
     (subst (λ ws. Does {T = Unit {0}} Done (values_after p.space x.instr ws (devices_of motors) (record { now = clock; start = 0 })) p.space (Err (PoolPassed c.in-Err-PoolPassed.size)) c.run_array.new.space)
-    c.as_slice.ensures
+    c.words.ensures
     (subst
-    (λ e. Does {T = Unit {0}} Done (values_after p.space x.instr c.as_slice.result.now (devices_of motors) (record { now = clock; start = 0 })) p.space (Err e) c.run_array.new.space)
+    (λ e. Does {T = Unit {0}} Done (values_after p.space x.instr c.words.result.now (devices_of motors) (record { now = clock; start = 0 })) p.space (Err e) c.run_array.new.space)
     c.in-Err-PoolPassed.field-0-is
     (c.in-Err-PoolPassed.ensures (devices_of motors) (record { now = clock; start = 0 }))))
     ∙ ap (λ n. stop (Memory n) (state_of c.run_array.new.space motors clock (c.args.place + 1) (turn_after turn) None)) (sym c.in-Err-PoolPassed.size-is)

@@ -1,10 +1,15 @@
 -- A statement that computes does what the plain machine does, and the program is the same but for values and rows.
-use Rattle.std.proofs.Common.{sym, ap, ◌∙◌, ◌+◌, subst, Err, None}
+use Rattle.std.proofs.Common.{◌≡◌, ◌<◌, ◌^◌, Bool, true, false, ℤ, w32, w64, rules, sym, ap, ◌∙◌, ◌+◌, subst, Err, None}
+use Rattle.std.proofs.Math.Facts.{to_z-of_z}
+use Rattle.std.specs.Int.Signed.{mag}
+use Rattle.nxt_types.specs.Statements.{statements, statement_number, landing, offset_of}
+use Rattle.nxt_types.specs.declared.instr.Instr.{Instr}
 use Rattle.nxt_model.specs.declared.line.Stop.TheVariants.{Memory}
 use Rattle.nxt_model.specs.Step.{stop}
 use Rattle.nxt_tool.specs.Stepping.{turn_after}
 use Rattle.nxt_model.specs.Devices.{at_start}
-use Rattle.nxt_ops.specs.Ops.{statement_in}
+use Rattle.nxt_ops.specs.Ops.{statement_in, next_of}
+use Rattle.nxt_ops.specs.declared.run.Next.TheVariants.{Jump}
 use Rattle.nxt_tool.specs.Plain.{devices_of, state_of}
 use Rattle.nxt_tool.proofs.Computed.{statement_there, Tells, fell, jumped, was_refused, still_program, same_image}
 use Rattle.nxt_tool.proofs.machine.compute.Goals as goal
@@ -22,24 +27,38 @@ run_op-requires c =
 
 pub returns-in-Ok-Fall-clause-next : goal.returns-in-Ok-Fall-clause-next
 returns-in-Ok-Fall-clause-next c motors clock turn =
-    fell c.args.program.now.space c.args.program.now.words motors clock c.args.place turn c.args.placed.word c.args.placed.instr c.requires.computes (statement_there c.args.program.now c.requires.program c.args.place c.args.placed c.requires.at c.requires.computes)
+    fell c.args.program.now.space c.args.program.now.code.words motors clock c.args.place turn c.args.placed.word c.args.placed.instr c.requires.computes (statement_there c.args.program.now c.requires.program c.args.place c.args.placed c.requires.at c.requires.computes)
     c.run_op.new.space (let g = c.in-Ok-Fall.ensures (devices_of motors) (record { now = clock; start = 0 }) in (g.0, g.1, sym c.in-Ok-Fall.field-0-is ∙ g.2))
+
+-- a jump tells the offset of its first operand
+offset_is : (i : Instr) (b : Bool) (z : ℤ) → Jump z ≡ next_of i b → z ≡ offset_of i.a
+offset_is i true z e = cc
+offset_is i false z e = let f : ⊥ = cc in absurd f
 
 pub returns-in-Ok-Jump-clause-next : goal.returns-in-Ok-Jump-clause-next
 returns-in-Ok-Jump-clause-next c motors clock turn =
     let p = c.args.program.now in
-    jumped p.space p.words motors clock c.args.place turn c.args.placed.word c.args.placed.instr c.requires.computes (statement_there c.args.program.now c.requires.program c.args.place c.args.placed c.requires.at c.requires.computes)
-    c.run_op.new.space _ c.target.result (let g = c.in-Ok-Jump.ensures (devices_of motors) (record { now = clock; start = 0 }) in (g.0, g.1, sym c.in-Ok-Jump.field-0-is ∙ g.2))
-    (c.target.ensures p.words c.requires.program.code)
+    let offset = c.in-Ok-Jump.offset in
+    let told = c.in-Ok-Jump.ensures (devices_of motors) (record { now = clock; start = 0 }) in
+    let next = sym c.in-Ok-Jump.field-0-is ∙ told.2 in
+    let fits : mag offset < 2 ^ 31 = search rules in
+    let word =
+    to_z-of_z {w = w64} {z = c.landing-word.result} (record { sfits = c.landing-word.type_inv })
+    ∙ c.landing-word.ensures
+    ∙ ap (landing c.args.placed.word) (to_z-of_z {w = w32} {z = offset} (record { sfits = fits }) ∙ offset_is c.args.placed.instr _ offset next)
+    in
+    jumped p.space p.code.words motors clock c.args.place turn c.args.placed.word c.args.placed.instr c.requires.computes (statement_there p c.requires.program c.args.place c.args.placed c.requires.at c.requires.computes)
+    c.run_op.new.space offset c.statement_number.result (told.0, told.1, next)
+    (c.statement_number.ensures p.code.words c.requires.program.code ∙ ap (statement_number (statements p.code.words)) word)
 
 pub returns-in-Err-PoolPassed-clause-next : goal.returns-in-Err-PoolPassed-clause-next
 returns-in-Err-PoolPassed-clause-next c motors clock turn =
     let p = c.args.program.now in
     let at = statement_there p c.requires.program c.args.place c.args.placed c.requires.at c.requires.computes in
-    was_refused p.space p.words motors clock c.args.place turn c.args.placed.word c.args.placed.instr c.requires.computes at
+    was_refused p.space p.code.words motors clock c.args.place turn c.args.placed.word c.args.placed.instr c.requires.computes at
     c.run_op.new.space c.in-Err-PoolPassed.bytes c.requires.sound
     (subst
-    (λ e. Tells p.space p.words motors clock c.args.place turn c.args.placed.word c.args.placed.instr c.requires.computes at (Err e) c.run_op.new.space)
+    (λ e. Tells p.space p.code.words motors clock c.args.place turn c.args.placed.word c.args.placed.instr c.requires.computes at (Err e) c.run_op.new.space)
     c.in-Err-PoolPassed.field-0-is
     (c.in-Err-PoolPassed.ensures (devices_of motors) (record { now = clock; start = 0 })))
     ∙ ap (λ n. stop (Memory n) (state_of c.run_op.new.space motors clock (c.args.place + 1) (turn_after turn) None)) (sym c.in-Err-PoolPassed.bytes-is)

@@ -6,7 +6,7 @@ use Rattle.nxt_code.specs.Decoding.{placed_of}
 use Rattle.nxt_code.specs.declared.statements.Placed.{Placed}
 use Rattle.nxt_model.specs.Means.Effects.{Effect}
 use Rattle.nxt_model.specs.Step.{stepped}
-use Rattle.nxt_ops.proofs.CodeFit.{placed_at}
+use Rattle.nxt_code.proofs.FitStatements.{placed_at}
 use Rattle.nxt_tool.specs.First.{is_built}
 use Rattle.nxt_tool.specs.Numbers.{number_at, motors_after, lines_after}
 use Rattle.nxt_tool.specs.Plain.{IsProgram, state_of}
@@ -18,11 +18,11 @@ use Rattle.nxt_tool.proofs.OnSpace.{stop_step, finish_step, set_out}
 use Rattle.nxt_tool.proofs.machine.perform.Goals as goal
 
 -- the decoded statement is the one of the words, and it runs
-there : (p : Program) → IsProgram p → (place : ℕ) (x : Placed) → slice_get p.code.placed.items place ≡ Some x → slice_get (statements p.words) place ≡ Some (placed_of p.words x)
-there p is place x at = placed_at p.words p.code is.code place x at
+there : (p : Program) → IsProgram p → (place : ℕ) (x : Placed) → slice_get p.code.decoded.placed.items place ≡ Some x → slice_get (statements p.code.words) place ≡ Some (placed_of p.code.words x)
+there p is place x at = placed_at p.code.words p.code.decoded is.code place x at
 
-built : (p : Program) → IsProgram p → (place : ℕ) (x : Placed) → slice_get p.code.placed.items place ≡ Some x → is_built p.space.shapes (statement_of x.instr p.words) ≡ true
-built p is place x at = built_at p.space.shapes (statements p.words) place (placed_of p.words x) is.built (there p is place x at)
+built : (p : Program) → IsProgram p → (place : ℕ) (x : Placed) → slice_get p.code.decoded.placed.items place ≡ Some x → is_built p.space.shapes (statement_of x.instr p.code.words) ≡ true
+built p is place x at = built_at p.space.shapes (statements p.code.words) place (placed_of p.code.words x) is.built (there p is place x at)
 
 pub compute-requires : goal.compute-requires
 compute-requires c =
@@ -32,7 +32,7 @@ compute-requires c =
       program = c.requires.program;
       sound = c.requires.sound;
       computes =
-          computes_there p.space.shapes (statement_of i p.words) (built p c.requires.program c.args.place c.args.placed c.requires.at)
+          computes_there p.space.shapes (statement_of i p.code.words) (built p c.requires.program c.args.place c.args.placed c.requires.at)
           (sym c.runs.ensures ∙ c.if-runs.false) c.in_default.not-Stop c.in_default.not-Finclump c.in_default.not-Setout;
       last = c.requires.last;
       at = c.requires.at;
@@ -42,22 +42,22 @@ pub returns-then-stops-clause-next : goal.returns-then-stops-clause-next
 returns-then-stops-clause-next c clock turn =
     let p = c.args.program.now in
     let x = c.args.placed in
-    let at = there p c.requires.program c.args.place x c.requires.at ∙ ap (λ st. Some (x.word, st)) (stop_is x.instr p.words c.in-Stop.is) in
-    stop_step p.space p.words c.args.motors.now clock c.args.place turn c.requires.sound x.instr.cmp _ x.word true at (sym c.stops.ensures ∙ c.if-stops.true)
+    let at = there p c.requires.program c.args.place x c.requires.at ∙ ap (λ st. Some (x.word, st)) (stop_is x.instr p.code.words c.in-Stop.is) in
+    stop_step p.space p.code.words c.args.motors.now clock c.args.place turn c.requires.sound x.instr.cmp _ x.word true at (sym c.stops.ensures ∙ c.if-stops.true)
 
 pub returns-else-stops-clause-next : goal.returns-else-stops-clause-next
 returns-else-stops-clause-next c clock turn =
     let p = c.args.program.now in
     let x = c.args.placed in
-    let at = there p c.requires.program c.args.place x c.requires.at ∙ ap (λ st. Some (x.word, st)) (stop_is x.instr p.words c.in-Stop.is) in
-    stop_step p.space p.words c.args.motors.now clock c.args.place turn c.requires.sound x.instr.cmp _ x.word false at (sym c.stops.ensures ∙ c.if-stops.false)
+    let at = there p c.requires.program c.args.place x c.requires.at ∙ ap (λ st. Some (x.word, st)) (stop_is x.instr p.code.words c.in-Stop.is) in
+    stop_step p.space p.code.words c.args.motors.now clock c.args.place turn c.requires.sound x.instr.cmp _ x.word false at (sym c.stops.ensures ∙ c.if-stops.false)
 
 pub returns-in-Finclump-clause-next : goal.returns-in-Finclump-clause-next
 returns-in-Finclump-clause-next c clock turn =
     let p = c.args.program.now in
     let x = c.args.placed in
-    let at = there p c.requires.program c.args.place x c.requires.at ∙ ap (λ st. Some (x.word, st)) (finish_is x.instr p.words c.in-Finclump.is) in
-    finish_step p.space p.words c.args.motors.now clock c.args.place turn c.requires.sound x.instr.cmp _ x.word at
+    let at = there p c.requires.program c.args.place x c.requires.at ∙ ap (λ st. Some (x.word, st)) (finish_is x.instr p.code.words c.in-Finclump.is) in
+    finish_step p.space p.code.words c.args.motors.now clock c.args.place turn c.requires.sound x.instr.cmp _ x.word at
 
 pub returns-in-Setout-clause-next : goal.returns-in-Setout-clause-next
 returns-in-Setout-clause-next c clock turn =
@@ -65,18 +65,18 @@ returns-in-Setout-clause-next c clock turn =
     let x = c.args.placed in
     let i = x.instr in
     let s = p.space in
-    let ps = slice_range p.words i.rest_at (i.rest_at + i.rest) in
-    let at = there p c.requires.program c.args.place x c.requires.at ∙ ap (λ st. Some (x.word, st)) (setout_is i p.words c.in-Setout.is) in
-    let named = port_named s.shapes i p.words c.in-Setout.is (built p c.requires.program c.args.place x c.requires.at) in
-    set_out s p.words c.args.motors.now clock c.args.place turn c.requires.sound x.word i.cmp (i.a ∷ ps) at
+    let ps = slice_range p.code.words i.rest_at (i.rest_at + i.rest) in
+    let at = there p c.requires.program c.args.place x c.requires.at ∙ ap (λ st. Some (x.word, st)) (setout_is i p.code.words c.in-Setout.is) in
+    let named = port_named s.shapes i p.code.words c.in-Setout.is (built p c.requires.program c.args.place x c.requires.at) in
+    set_out s p.code.words c.args.motors.now clock c.args.place turn c.requires.sound x.word i.cmp (i.a ∷ ps) at
     ∙ ap
     (λ (e : Effect). stepped (record (state_of s c.args.motors.now clock (c.args.place + 1) (turn_after turn) None) { devices = e.devices }) e.lines)
     (setout_after s c.args.motors.now c.requires.three i.cmp i.a ps named)
     ∙ ap₂
     (λ ms ls. stepped (state_of s ms clock (c.args.place + 1) (turn_after turn) None) ls)
     (sym (c.set_output-line.ensures.motors
-    ∙ ap (λ ws. motors_after s (number_at s i.a) (drop 1 (statement_of i ws).args) c.args.motors.now) c.as_slice.ensures
-    ∙ ap (λ (st : Statement). motors_after s (number_at s i.a) (drop 1 st.args) c.args.motors.now) (setout_is i p.words c.in-Setout.is)))
+    ∙ ap (λ ws. motors_after s (number_at s i.a) (drop 1 (statement_of i ws).args) c.args.motors.now) c.words.ensures
+    ∙ ap (λ (st : Statement). motors_after s (number_at s i.a) (drop 1 st.args) c.args.motors.now) (setout_is i p.code.words c.in-Setout.is)))
     (sym (c.set_output-line.ensures.lines
-    ∙ ap (λ ws. lines_after s (number_at s i.a) (drop 1 (statement_of i ws).args) c.args.motors.now) c.as_slice.ensures
-    ∙ ap (λ (st : Statement). lines_after s (number_at s i.a) (drop 1 st.args) c.args.motors.now) (setout_is i p.words c.in-Setout.is)))
+    ∙ ap (λ ws. lines_after s (number_at s i.a) (drop 1 (statement_of i ws).args) c.args.motors.now) c.words.ensures
+    ∙ ap (λ (st : Statement). lines_after s (number_at s i.a) (drop 1 st.args) c.args.motors.now) (setout_is i p.code.words c.in-Setout.is)))

@@ -1,54 +1,56 @@
 -- What is made runs, and is at its start.
-use Rattle.std.proofs.Common.{◌≡◌, ◌++◌, ◌<◌, [], true, length, ap, ap₂, sym, ◌∙◌, subst, arith}
+use Rattle.std.proofs.Common.{◌≡◌, ◌<◌, [], true, false, length, ap, ap₂, sym, ◌∙◌, subst, arith}
 use Rattle.std.specs.List.{list_all}
-use Rattle.std.proofs.lemmas.Bool.{and_right}
+use Rattle.std.proofs.lemmas.Bool.{and_left, and_right}
+use Rattle.nxt_types.specs.Shapes.{Members}
 use Rattle.nxt_types.specs.Statements.{statement_of, statements}
 use Rattle.nxt_types.specs.Tables.{Table}
+use Rattle.nxt_rxe.specs.declared.parts.Parts.{Parts}
 use Rattle.nxt_model.specs.Values.{lists_in}
+use Rattle.nxt_layout.specs.Layouts.{FileLayout}
 use Rattle.nxt_space.specs.Variables.{Variables}
 use Rattle.nxt_code.specs.Decoding.{IsDecoded}
+use Rattle.nxt_code.specs.declared.code.Code.{Code}
 use Rattle.nxt_code.specs.declared.statements.Placed.{Placed}
-use Rattle.nxt_ops.proofs.CodeFit.{all_fit}
+use Rattle.nxt_code.proofs.FitStatements.{all_fit}
 use Rattle.nxt_tool.specs.First.{is_only_clump, is_built, are_built}
+use Rattle.nxt_tool.specs.Accepted.{IsJudged}
 use Rattle.nxt_tool.specs.Plain.{AllFit}
 use Rattle.nxt_tool.proofs.Built.{decoded_built}
 use Rattle.nxt_tool.proofs.Making.{made_runs, made_image, none_bad}
 use Rattle.nxt_tool.proofs.program.program_of.Goals as goal
+use Rattle.nxt_tool.proofs.program.program_of.Goals.{then-not-is_only_clump-via-then-not-is_only_clump, then-not-is_only_clump-via-else-not-is_only_clump+then-not-all_run}
 
-only : (c : goal.In_ok-space) → is_only_clump c.args.parts.now.clumps ≡ true
-only c = ap is_only_clump (sym c.as_slice.ensures) ∙ sym c.if-not-is_only_clump.ensures
+only : (c : goal.After-into_toc) (p : Parts) → IsJudged p c.args.layout c.args.code → is_only_clump p.clumps ≡ true
+only c p j = ap is_only_clump (sym j.clumps ∙ sym c.as_slice.ensures) ∙ sym c.if-not-is_only_clump.ensures
 
-words : (c : goal.In_ok-space) → c.append.new.self ≡ c.args.parts.now.code
-words c = c.in_ok-append.ensures.ok ∙ ap₂ (λ xs ys. xs ++ ys) c.new-words.ensures c.as_slice-3.ensures
+-- the test of the decoded statements is that of the code's
+tested : (p : Parts) (l : FileLayout) (code : Code) (ss : Members) → IsJudged p l code → ss ≡ l.shapes →
+    list_all (λ (x : Placed). is_built ss (statement_of x.instr [])) code.decoded.placed.items ≡ are_built l.shapes (statements p.code)
+tested p l code ss j same =
+    ap (λ ts. list_all (λ (x : Placed). is_built ts (statement_of x.instr [])) code.decoded.placed.items) same ∙ decoded_built l.shapes p.code code.decoded j.decoded
 
-decoded : (c : goal.In_ok-space) → IsDecoded c.args.parts.now.code c.in_ok-code.code
-decoded c = subst (λ ws. IsDecoded ws c.in_ok-code.code) c.as_slice-2.ensures c.in_ok-code.ensures
-
-built : (c : goal.In_ok-space) → are_built c.args.layout.now.shapes (statements c.args.parts.now.code) ≡ true
-built c =
-    sym (decoded_built c.args.layout.now.shapes c.args.parts.now.code c.in_ok-code.code (decoded c))
-    ∙ ap (λ ss. list_all (λ (p : Placed). is_built ss (statement_of p.instr [])) c.in_ok-code.code.placed.items) (sym (ap (λ (t : Table). t.shapes) c.toc.ensures))
-    ∙ sym c.if-not-all_run.ensures
-
-fit : (c : goal.In_ok-space) → AllFit c.args.layout.now.shapes (statements c.args.parts.now.code)
-fit c =
-    let p = c.args.parts.now in
-    all_fit c.args.layout.now.shapes (length p.clumps) p.code (none_bad p c.args.layout.now.shapes c.requires.code)
+built : (c : goal.After-into_toc) (p : Parts) → IsJudged p c.args.layout c.args.code → are_built c.args.layout.shapes (statements p.code) ≡ true
+built c p j = sym (tested p c.args.layout c.args.code _ j (ap (λ (t : Table). t.shapes) c.toc.ensures)) ∙ sym c.if-not-all_run.ensures
 
 pub returns-clause-made : goal.returns-clause-made
 returns-clause-made c =
-    let start = c.in_ok-space.ensures.start c.args.parts.now c.requires.layout in
-    let shapes = ap (λ (s : Variables). s.shapes) start in (
+    let p = c.requires.0 in
+    let j = c.requires.1 in
+    let ss = c.args.layout.shapes in
+    let start = c.in_ok-space.ensures.start p j.layout in
+    let shapes = ap (λ (s : Variables). s.shapes) start in
+    let fit : AllFit ss (statements p.code) = all_fit ss (length p.clumps) p.code (none_bad p ss j.code) in (
       record {
-        entries = ap (λ (t : Table). t.entries) (c.in_ok-toc.ensures ∙ c.toc-2.ensures) ∙ sym (ap (λ (s : Variables). s.entries) start);
-        shapes = ap (λ (t : Table). t.shapes) (c.in_ok-toc.ensures ∙ c.toc-2.ensures) ∙ sym shapes;
-        code = subst (λ ws. IsDecoded ws c.in_ok-code.code) (sym (words c)) (decoded c);
+        entries = ap (λ (t : Table). t.entries) c.into_toc.ensures ∙ sym (ap (λ (s : Variables). s.entries) start);
+        shapes = ap (λ (t : Table). t.shapes) c.into_toc.ensures ∙ sym shapes;
+        code = subst (λ ws. IsDecoded ws c.args.code.decoded) (sym j.words) j.decoded;
         fit =
             subst
-            (λ ss. AllFit ss (statements c.append.new.self))
+            (λ ts. AllFit ts (statements c.args.code.words))
             (sym shapes)
-            (subst (λ ws. AllFit c.args.layout.now.shapes (statements ws)) (sym (words c)) (fit c));
-        built = ap₂ (λ ss ws. are_built ss (statements ws)) shapes (words c) ∙ built c;
+            (subst (λ ws. AllFit ss (statements ws)) (sym j.words) fit);
+        built = ap₂ (λ ts ws. are_built ts (statements ws)) shapes j.words ∙ built c p j;
       },
       record {
         values = ap (λ (s : Variables). s.values) start ∙ sym (ap (λ (s : Variables). s.start) start);
@@ -58,19 +60,19 @@ returns-clause-made c =
     )
 
 pub returns-clause-image : goal.returns-clause-image
-returns-clause-image c made =
-    let p = c.args.parts.now in
-    made_image p c.args.layout.now made c.in_ok-space.space c.append.new.self c.requires.counts (only c) (c.in_ok-space.ensures.start p made) (words c)
+returns-clause-image c p j =
+    made_image p c.args.layout j.layout c.in_ok-space.space c.args.code.words j.counts (only c p j) (c.in_ok-space.ensures.start p j.layout) j.words
 
 pub returns-clause-runs : goal.returns-clause-runs
-returns-clause-runs c = made_runs c.args.parts.now c.args.layout.now.shapes (only c) (built c)
+returns-clause-runs c p j = made_runs p c.args.layout.shapes (only c p j) (built c p j)
 
-pub returns-then-not-all_run-clause-unbuilt : goal.returns-then-not-all_run-clause-unbuilt
-returns-then-not-all_run-clause-unbuilt c e =
-    let p = c.args.parts.now in
-    let ss = c.args.layout.now.shapes in
-    let d = subst (λ ws. IsDecoded ws c.in_ok-code.code) c.as_slice-2.ensures c.in_ok-code.ensures in
-    and_right (is_only_clump p.clumps) (are_built ss (statements p.code))
-    (sym (decoded_built ss p.code c.in_ok-code.code d)
-    ∙ ap (λ ss. list_all (λ (p : Placed). is_built ss (statement_of p.instr [])) c.in_ok-code.code.placed.items) (sym (ap (λ (t : Table). t.shapes) c.toc.ensures))
-    ∙ sym c.if-not-all_run.ensures)
+pub returns-then-not-is_only_clump-clause-unbuilt : goal.returns-then-not-is_only_clump-clause-unbuilt
+returns-then-not-is_only_clump-clause-unbuilt c p j e =
+    let ss = c.args.layout.shapes in
+    elim c.then-not-is_only_clump.branch [
+      | then-not-is_only_clump-via-then-not-is_only_clump w ↦
+          and_left (is_only_clump p.clumps) (are_built ss (statements p.code)) (ap is_only_clump (sym j.clumps ∙ sym c.as_slice.ensures) ∙ sym w.if-not-is_only_clump.ensures)
+      | then-not-is_only_clump-via-else-not-is_only_clump+then-not-all_run w ↦
+          and_right (is_only_clump p.clumps) (are_built ss (statements p.code))
+          (sym (tested p c.args.layout c.args.code _ j (ap (λ (t : Table). t.shapes) w.toc.ensures)) ∙ sym w.if-not-all_run.ensures)
+    ]

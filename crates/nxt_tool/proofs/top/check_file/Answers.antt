@@ -3,7 +3,7 @@ use Rattle.std.proofs.Common.{◌≡◌, ℕ, ◌≤◌, ◌∙◌, List, Err, a
 use Rattle.nxt_edge.proofs.Known.{Consumes-longer}
 use Rattle.nxt_tool.specs.Accepted.{IsSoundFile, BreaksRule, HasBreak}
 use Rattle.nxt_tool.specs.Due.{refused_answer, sound_answer}
-use Rattle.nxt_tool.specs.declared.accept.AcceptFault.TheVariants.{Refused}
+use Rattle.nxt_tool.specs.declared.fault.AcceptFault.TheVariants.{Refused}
 use Rattle.nxt_tool.proofs.Statuses.{long_list, read_is, refused_check, sound_check, unread_check, no_memory_check}
 use Rattle.nxt_tool.proofs.top.check_file.Goals as goal
 

@@ -4,7 +4,7 @@ use Rattle.nxt_edge.proofs.Known.{Consumes-longer}
 use Rattle.nxt_tool.specs.Accepted.{IsAcceptedAs, IsRefused, HasCause}
 use Rattle.nxt_tool.specs.Plain.{image_in}
 use Rattle.nxt_tool.specs.Due.{ReadsScript, answer_to, refused_answer}
-use Rattle.nxt_tool.specs.declared.accept.AcceptFault.TheVariants.{Refused}
+use Rattle.nxt_tool.specs.declared.fault.AcceptFault.TheVariants.{Refused}
 use Rattle.nxt_tool.proofs.Statuses.{long_list, read_is, run_on, accepted_run, refused_run, unread_run, no_memory_run}
 use Rattle.nxt_tool.proofs.top.run.Goals as goal
 

@@ -1,0 +1,229 @@
+//! Programs told plainly, and the files that they are: what the tests build their files with.
+#![tactic(auto)]
+
+ghost use Rattle.std.specs.Prelude.{◌≡◌, ◌<◌, ◌^◌, length, IfOk, IsTrue};
+ghost use Rattle.nxt_rxe.specs.Files.{HasCounts, HasDynamic, dependent_count};
+ghost use Rattle.nxt_rxe.specs.declared.parts.Parts.{Parts};
+ghost use Rattle.nxt_layout.specs.Layouts.{IsLayout};
+
+use nxt_instr::encode;
+use nxt_layout::{Layout, check_layout};
+use nxt_rxe::{Header, Parts, read_rxe, write_rxe};
+use nxt_types::instr::Op;
+use nxt_types::kind::Cmp;
+use nxt_types::lists::{Bytes, ClumpRec, ClumpRecs, Entries, Words};
+use nxt_types::shape::TocEntry;
+use std::alloc::Global;
+use std::test::Fail;
+
+pub const VOID: u8 = 0;
+
+pub const UBYTE: u8 = 1;
+
+pub const SBYTE: u8 = 2;
+
+pub const UWORD: u8 = 3;
+
+pub const SWORD: u8 = 4;
+
+pub const ULONG: u8 = 5;
+
+pub const SLONG: u8 = 6;
+
+pub const ARRAY: u8 = 7;
+
+pub const CLUSTER: u8 = 8;
+
+pub const MUTEX: u8 = 9;
+
+/// The leaf takes no default.
+pub const NO_DEFAULT: u8 = 1;
+
+/// An entry of a table: the code of its type, its flags, and its description.
+pub type Entry = (u8, u8, u16);
+
+/// A row of a table of rows: its place, its stride, and its count.
+pub type Row = (u16, u16, u16);
+
+/// A statement: its operation, its comparison, and its operands.
+pub type Statement<'a> = (Op, Cmp, &'a [u16]);
+
+/// A program: its table, its static bytes and their defaults, the rows of its table of rows, the bytes behind them, how many
+/// zeros the data ends with, the words at which its clumps start, and its statements.
+#[derive(Clone, Copy)]
+pub struct Image<'a> {
+    pub entries: &'a [Entry],
+    pub static_size: u16,
+    pub defaults: &'a [u8],
+    pub rows: &'a [Row],
+    pub lists: &'a [u8],
+    pub zeros: u16,
+    pub clumps: &'a [u16],
+    pub code: &'a [Statement<'a>],
+}
+
+pub const EMPTY: Image<'static> = Image {
+    entries: &[],
+    static_size: 0,
+    defaults: &[],
+    rows: &[],
+    lists: &[],
+    zeros: 0,
+    clumps: &[],
+    code: &[],
+};
+
+/// Adds the words of a statement.
+pub fn append(words: &mut Words, statement: &Statement) -> Result<(), Fail> {
+    let (op, cmp, operands) = *statement;
+    if !op.has_comparison() && cmp != Cmp::Lt {
+        return Err("it compares nothing".into());
+    }
+    if operands.len() > 1000 || !op.arity().takes(operands.len()) {
+        return Err("it takes another number of operands".into());
+    }
+    encode(op, cmp, operands, words)?;
+    Ok(())
+}
+
+/// The words of statements, one behind another.
+pub fn words_of(alloc: Global, statements: &[Statement]) -> Result<Words, Fail> {
+    let mut words = Words::new(alloc);
+    for statement in statements {
+        append(&mut words, statement)?;
+    }
+    Ok(words)
+}
+
+fn push_word(bytes: &mut Bytes, word: u16) -> Result<(), Fail> {
+    bytes.append(&word.to_le_bytes())?;
+    Ok(())
+}
+
+// The table of rows, and the bytes behind it.
+fn dynamic_of(alloc: Global, image: &Image) -> Result<Bytes, Fail> {
+    let mut bytes = Bytes::new(alloc);
+    for (place, stride, count) in image.rows {
+        for number in [*place, *stride, *count, 0, 0] {
+            push_word(&mut bytes, number)?;
+        }
+    }
+    bytes.append(image.lists)?;
+    Ok(bytes)
+}
+
+fn entries_of(alloc: Global, image: &Image) -> Result<Entries, Fail> {
+    let mut entries = Entries::new(alloc);
+    for (code, flags, desc) in image.entries {
+        entries.push(TocEntry {
+            code: *code,
+            flags: *flags,
+            desc: *desc,
+        })?;
+    }
+    Ok(entries)
+}
+
+// Records of clumps that nothing depends on.
+fn clumps_of(alloc: Global, image: &Image) -> Result<ClumpRecs, Fail> {
+    let mut clumps = ClumpRecs::new(alloc);
+    for start in image.clumps {
+        clumps.push(ClumpRec {
+            fire: 0,
+            dependents: 0,
+            start: *start,
+        })?;
+    }
+    Ok(clumps)
+}
+
+fn header_of(image: &Image, dynamic: usize, words: usize) -> Result<Header, Fail> {
+    let fixed = image.static_size;
+    let dyn_size = u16::try_from(dynamic)?;
+    let dyn_at = u16::try_from(image.defaults.len())?;
+    let behind = fixed.checked_add(dyn_size).ok_or("too many bytes")?;
+    Ok(Header {
+        toc_count: u16::try_from(image.entries.len())?,
+        initial: behind.checked_add(image.zeros).ok_or("too many bytes")?,
+        static_size: fixed,
+        default_size: dyn_at.checked_add(dyn_size).ok_or("too many bytes")?,
+        dyn_at: if dyn_size == 0 { 0 } else { dyn_at },
+        dyn_size,
+        head: 0,
+        tail: 0,
+        dope_at: if dyn_size == 0 { 0 } else { fixed },
+        clump_count: u16::try_from(image.clumps.len())?,
+        word_count: u16::try_from(words)?,
+    })
+}
+
+// How many dependents the clumps have together.
+fn dependents_of(clumps: &[ClumpRec]) -> usize
+    requires { length clumps.now < 2 ^ 32 }
+    ensures { result ≡ dependent_count clumps.now }
+{
+    let mut sum = 0;
+    for clump in clumps {
+        sum += usize::from(clump.dependents);
+    }
+    sum
+}
+
+fn has_counts(parts: &Parts) -> bool
+    ensures { IsTrue result → HasCounts parts.now }
+{
+    parts.toc.len() == usize::from(parts.header.toc_count)
+        && parts.defaults.len() == usize::from(parts.header.default_size)
+        && parts.clumps.len() == usize::from(parts.header.clump_count)
+        && parts.dependents.len() == dependents_of(parts.clumps.as_slice())
+        && parts.code.len() == usize::from(parts.header.word_count)
+}
+
+fn has_dynamic(header: &Header) -> bool
+    ensures { IsTrue result → HasDynamic header.now }
+{
+    let size = u32::from(header.dyn_size);
+    u32::from(header.dyn_at) + size <= u32::from(header.default_size)
+        && u32::from(header.static_size) + size <= u32::from(header.initial)
+}
+
+/// The parts of a program's file.
+pub fn parts_of(alloc: Global, image: &Image) -> Result<Parts, Fail>
+    ensures counts { IfOk result HasCounts }
+    ensures dynamic { IfOk result (λ parts. HasDynamic parts.header) }
+{
+    let dynamic = dynamic_of(alloc, image)?;
+    let code = words_of(alloc, image.code)?;
+    let header = header_of(image, dynamic.len(), code.len())?;
+    let mut defaults = Bytes::new(alloc);
+    defaults.append(image.defaults)?;
+    defaults.append(dynamic.as_slice())?;
+    let parts = Parts {
+        header,
+        toc: entries_of(alloc, image)?,
+        defaults,
+        clumps: clumps_of(alloc, image)?,
+        dependents: Bytes::new(alloc),
+        code,
+    };
+    if !has_counts(&parts) || !has_dynamic(&parts.header) {
+        return Err("no file has these parts".into());
+    }
+    Ok(parts)
+}
+
+/// A program's file.
+pub fn file_of(alloc: Global, image: &Image) -> Result<Bytes, Fail> {
+    let parts = parts_of(alloc, image)?;
+    Ok(write_rxe(alloc, &parts)?)
+}
+
+/// The layout of a program that is accepted.
+pub fn layout_of(alloc: Global, image: &Image) -> Result<Layout, Fail>
+    ensures { IfOk result (λ layout. (p : Parts) × IsLayout p layout) }
+{
+    let file = file_of(alloc, image)?;
+    let parts = read_rxe(alloc, file.as_slice())?;
+    let (layout, _code) = check_layout(alloc, parts)?;
+    Ok(layout)
+}

@@ -1,0 +1,41 @@
+-- Refusals, and what each tells.
+use Rattle.std.specs.Prelude.{ℕ, List, [], ◌∷◌}
+use Rattle.nxt_rxe.specs.declared.fault.RxeFault.{RxeFault}
+use Rattle.nxt_rxe.specs.declared.fault.RxeFault.TheVariants as sections
+use Rattle.nxt_rxe.specs.FileRules as file_rules
+use Rattle.nxt_layout.specs.declared.fault.LayoutFault.{LayoutFault}
+use Rattle.nxt_layout.specs.declared.fault.LayoutFault.TheVariants as layout
+use Rattle.nxt_layout.specs.LayoutRules as layout_rules
+use Rattle.nxt_code.specs.declared.fault.CodeFault.{CodeFault}
+use Rattle.nxt_code.specs.declared.fault.CodeFault.TheVariants as code
+use Rattle.nxt_code.specs.CodeRules as code_rules
+use Rattle.nxt_tool.specs.declared.fault.Refusal.{Refusal}
+use Rattle.nxt_tool.specs.declared.fault.Refusal.TheVariants.{Sections, Layout, Code, Unbuilt}
+use Rattle.nxt_tool.specs.declared.fault.ProgramFault.{ProgramFault}
+use Rattle.nxt_tool.specs.declared.fault.ProgramFault.TheVariants as programs
+use Rattle.nxt_tool.specs.declared.fault.AcceptFault.{AcceptFault}
+use Rattle.nxt_tool.specs.declared.fault.AcceptFault.TheVariants.{Refused, NoMemory}
+
+-- the rule's number, and the numbers of its place
+abbrev pub told : Refusal → List ℕ
+told (Sections f) = file_rules.rank f
+told (Layout f) = layout_rules.rank f
+told (Code f) = code_rules.rank f
+told Unbuilt = 0 ∷ []
+
+-- a fault of a step on the way from a file to its program: want of memory, or a refusal
+abbrev pub of_sections : RxeFault → AcceptFault
+of_sections sections.NoMemory = NoMemory
+of_sections f = Refused (Sections f)
+
+abbrev pub of_layout : LayoutFault → AcceptFault
+of_layout layout.NoMemory = NoMemory
+of_layout f = Refused (Layout f)
+
+abbrev pub of_code : CodeFault → AcceptFault
+of_code code.NoMemory = NoMemory
+of_code f = Refused (Code f)
+
+abbrev pub of_program : ProgramFault → AcceptFault
+of_program programs.NoMemory = NoMemory
+of_program programs.Unbuilt = Refused Unbuilt

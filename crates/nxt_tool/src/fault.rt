@@ -1,0 +1,106 @@
+// Why a file gives no program.
+
+ghost use Rattle.std.specs.Prelude.{◌≡◌, IfOk, OnErr};
+ghost use Rattle.nxt_types.specs.BrokenRules.{rule_and_place};
+ghost use Rattle.nxt_tool.specs.Refused.{told, of_sections, of_layout, of_code, of_program};
+ghost use Rattle.nxt_tool.specs.declared.fault.ProgramFault.TheVariants.{NoMemory as no_memory};
+
+use nxt_code::CodeFault;
+use nxt_layout::LayoutFault;
+use nxt_rxe::RxeFault;
+use nxt_types::memory;
+use nxt_types::refusal::BrokenRule;
+
+/// Why a file is refused.
+#[derive(Clone, Copy, Debug, PartialEq, Eq)]
+pub enum Refusal {
+    /// A rule of its sections is broken.
+    Sections(RxeFault),
+    /// A rule of its table and data is broken.
+    Layout(LayoutFault),
+    /// A rule of its clumps and code is broken.
+    Code(CodeFault),
+    /// It is none of the images that run today.
+    Unbuilt,
+}
+
+impl Refusal {
+    /// The broken rule with its place, 0 where none is broken; an `Err` where there was no memory.
+    pub fn broken_rule(self) -> Result<BrokenRule, memory::NoMemory>
+        ensures { IfOk result (λ b. rule_and_place b ≡ told self) }
+    {
+        match self {
+            Refusal::Sections(fault) => fault.broken_rule(),
+            Refusal::Layout(fault) => fault.broken_rule(),
+            Refusal::Code(fault) => fault.broken_rule(),
+            Refusal::Unbuilt => Ok(BrokenRule::whole(0)),
+        }
+    }
+}
+
+/// Why no program was made.
+#[derive(Clone, Copy, Debug, PartialEq, Eq)]
+pub enum ProgramFault {
+    NoMemory,
+    /// It is none of those that run today.
+    Unbuilt,
+}
+
+impl From<memory::NoMemory> for ProgramFault {
+    ghost from_gives = { λ _ f. f ≡ no_memory };
+
+    fn from(_: memory::NoMemory) -> Self {
+        ProgramFault::NoMemory
+    }
+}
+
+/// Why a file gave no program.
+#[derive(Clone, Copy, Debug, PartialEq, Eq)]
+pub enum AcceptFault {
+    Refused(Refusal),
+    NoMemory,
+}
+
+impl From<RxeFault> for AcceptFault {
+    ghost from_gives = { λ f a. a ≡ of_sections f };
+
+    fn from(fault: RxeFault) -> Self {
+        match fault {
+            RxeFault::NoMemory => AcceptFault::NoMemory,
+            _ => AcceptFault::Refused(Refusal::Sections(fault)),
+        }
+    }
+}
+
+impl From<LayoutFault> for AcceptFault {
+    ghost from_gives = { λ f a. a ≡ of_layout f };
+
+    fn from(fault: LayoutFault) -> Self {
+        match fault {
+            LayoutFault::NoMemory => AcceptFault::NoMemory,
+            _ => AcceptFault::Refused(Refusal::Layout(fault)),
+        }
+    }
+}
+
+impl From<CodeFault> for AcceptFault {
+    ghost from_gives = { λ f a. a ≡ of_code f };
+
+    fn from(fault: CodeFault) -> Self {
+        match fault {
+            CodeFault::NoMemory => AcceptFault::NoMemory,
+            _ => AcceptFault::Refused(Refusal::Code(fault)),
+        }
+    }
+}
+
+impl From<ProgramFault> for AcceptFault {
+    ghost from_gives = { λ f a. a ≡ of_program f };
+
+    fn from(fault: ProgramFault) -> Self {
+        match fault {
+            ProgramFault::NoMemory => AcceptFault::NoMemory,
+            ProgramFault::Unbuilt => AcceptFault::Refused(Refusal::Unbuilt),
+        }
+    }
+}

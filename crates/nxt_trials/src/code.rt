@@ -1,0 +1,277 @@
+// Code at the edges of the rules on clumps, statements and operands.
+
+ghost use Rattle.std.specs.Prelude.{◌≤◌};
+
+use nxt_code::{CodeFault, check_code};
+use nxt_images::{
+    ARRAY, CLUSTER, EMPTY, Image, MUTEX, NO_DEFAULT, SBYTE, SLONG, SWORD, Statement, UBYTE, ULONG,
+    VOID, append, layout_of, words_of,
+};
+use nxt_layout::Layout;
+use nxt_types::NoMemory;
+use nxt_types::instr::Op;
+use nxt_types::kind::Cmp;
+use nxt_types::lists::{Bytes, ClumpRec, ClumpRecs, Words};
+use nxt_types::opcodes::Arity;
+use nxt_types::toc::Toc;
+use std::alloc::Global;
+use std::process::Abort;
+use std::test::Fail;
+
+const ABSENT: u16 = 0xFFFF;
+
+/// The variables that the tests name: two numbers at 0 and 1, lists of ubyte at 2 and of slong at 4, a mutex at 6, a cluster
+/// at 7 with a place at 9 and a text at 12, and a void at 15. At 3, 5 and 13 stand elements. The cluster draws a text: it
+/// has a result, a place, a text and options.
+const VARIABLES: Image<'static> = Image {
+    entries: &[
+        (UBYTE, NO_DEFAULT, 0),
+        (SLONG, NO_DEFAULT, 1),
+        (ARRAY, NO_DEFAULT, 5),
+        (UBYTE, 0, 0),
+        (ARRAY, NO_DEFAULT, 7),
+        (SLONG, 0, 0),
+        (MUTEX, NO_DEFAULT, 9),
+        (CLUSTER, 0, 4),
+        (SBYTE, NO_DEFAULT, 13),
+        (CLUSTER, 0, 2),
+        (SWORD, NO_DEFAULT, 14),
+        (SWORD, NO_DEFAULT, 16),
+        (ARRAY, NO_DEFAULT, 18),
+        (UBYTE, 0, 0),
+        (ULONG, NO_DEFAULT, 20),
+        (VOID, 0, 0),
+    ],
+    static_size: 24,
+    rows: &[(24, 10, 1)],
+    ..EMPTY
+};
+
+// Why code of one clump is refused, which starts at a word and has so many dependents, these.
+fn fault(
+    alloc: Global,
+    toc: &Toc,
+    start: u16,
+    listed: &[u8],
+    words: Words,
+) -> Result<Option<CodeFault>, Fail> {
+    let mut clumps = ClumpRecs::new(alloc);
+    clumps.push(ClumpRec {
+        fire: 0,
+        dependents: u8::try_from(listed.len())?,
+        start,
+    })?;
+    let mut dependents = Bytes::new(alloc);
+    dependents.append(listed)?;
+    if words.len() > 65535 {
+        return Err("too many words".into());
+    }
+    Ok(check_code(alloc, toc, clumps, dependents, words).err())
+}
+
+/// Statements, the words behind them, the word at which the clump starts, and why the code is refused.
+type Case<'a> = (&'a [Statement<'a>], &'a [u16], u16, Option<CodeFault>);
+
+// A setout of two pairs, in seven words, and a finclump.
+const SETOUT: [Statement<'static>; 2] = [
+    (Op::Setout, Cmp::Lt, &[0, 2, 1, 0, 0]),
+    (Op::Finclump, Cmp::Lt, &[0, ABSENT]),
+];
+
+static CASES: [Case<'static>; 12] = [
+    // A jump leads to a statement.
+    (&[(Op::Jmp, Cmp::Lt, &[0])], &[], 0, None),
+    (
+        &[(Op::Jmp, Cmp::Lt, &[1])],
+        &[],
+        0,
+        Some(CodeFault::Jump(0)),
+    ),
+    (
+        &[(Op::Jmp, Cmp::Lt, &[0xFFFF])],
+        &[],
+        0,
+        Some(CodeFault::Jump(0)),
+    ),
+    // Words that spell nothing.
+    (&[], &[0x400F, 0x0000], 0, Some(CodeFault::Instr(0))),
+    (
+        &[(Op::Jmp, Cmp::Lt, &[0])],
+        &[0x4025],
+        0,
+        Some(CodeFault::Instr(2)),
+    ),
+    // A clump starts at a statement.
+    (&SETOUT, &[], 0, None),
+    (&SETOUT, &[], 7, None),
+    (&SETOUT, &[], 1, Some(CodeFault::ClumpStart(0))),
+    (&SETOUT, &[], 10, Some(CodeFault::ClumpStart(0))),
+    // The last statement ends the clump.
+    (&[(Op::Stop, Cmp::Lt, &[ABSENT])], &[], 0, None),
+    (
+        &[(Op::Stop, Cmp::Lt, &[0])],
+        &[],
+        0,
+        Some(CodeFault::FallsOut(0)),
+    ),
+    (
+        &[(Op::Mov, Cmp::Lt, &[0, 1])],
+        &[],
+        0,
+        Some(CodeFault::FallsOut(0)),
+    ),
+];
+
+#[test]
+fn code_at_the_edges_of_the_rules(rt: HostRuntime) -> Result<(), Fail> {
+    let alloc = rt.alloc();
+    let layout = layout_of(alloc, &VARIABLES)?;
+    for (statements, behind, start, refused) in &CASES {
+        let mut words = words_of(alloc, statements)?;
+        words.append(behind)?;
+        let found = fault(alloc, layout.toc(), *start, &[], words)?;
+        assert_eq!(rt; found, *refused, "{statements:?}, {behind:?} from {start}");
+    }
+    Ok(())
+}
+
+#[test]
+fn no_clump_is_refused(rt: HostRuntime) -> Result<(), Fail> {
+    let alloc = rt.alloc();
+    let layout = layout_of(alloc, &EMPTY)?;
+    let refused = check_code(
+        alloc,
+        layout.toc(),
+        ClumpRecs::new(alloc),
+        Bytes::new(alloc),
+        Words::new(alloc),
+    );
+    assert_eq!(rt; refused.err(), Some(CodeFault::ClumpCount(0)));
+    Ok(())
+}
+
+#[test]
+fn accepted_code_is_kept(rt: HostRuntime) -> Result<(), Fail> {
+    let alloc = rt.alloc();
+    let layout = layout_of(alloc, &EMPTY)?;
+    let clump = ClumpRec {
+        fire: 0,
+        dependents: 1,
+        start: 0,
+    };
+    let mut clumps = ClumpRecs::new(alloc);
+    clumps.push(clump)?;
+    let mut dependents = Bytes::new(alloc);
+    dependents.push(0)?;
+    let mut words = Words::new(alloc);
+    words.append(&[0x4025, 0x0000])?;
+    let code = check_code(alloc, layout.toc(), clumps, dependents, words)?;
+    assert_eq!(rt; code.words(), [0x4025, 0x0000].as_slice());
+    assert_eq!(rt; code.clumps().as_slice(), [clump].as_slice());
+    assert_eq!(rt; code.dependents().as_slice(), [0].as_slice());
+    Ok(())
+}
+
+#[test]
+fn a_dependent_names_a_clump(rt: HostRuntime) -> Result<(), Fail> {
+    let alloc = rt.alloc();
+    let layout = layout_of(alloc, &EMPTY)?;
+    let words = words_of(alloc, &[(Op::Jmp, Cmp::Lt, &[0])])?;
+    let refused = fault(alloc, layout.toc(), 0, &[0, 1], words)?;
+    assert_eq!(rt; refused, Some(CodeFault::Dependent(0, 1)));
+    Ok(())
+}
+
+// Operations with operands that are right, and beside each a wrong one, or the same where every word is right. An
+// operation of as many operands as one likes has three.
+static ROWS: [(Op, [u16; 5], [u16; 5]); 45] = [
+    (Op::Add, [0, 1, 0, 0, 0], [6, 4, 4, 0, 0]),
+    (Op::Sub, [4, 4, 0, 0, 0], [7, 7, 7, 0, 0]),
+    (Op::Neg, [0, 1, 0, 0, 0], [7, 4, 0, 0, 0]),
+    (Op::Mul, [2, 0, 4, 0, 0], [15, 3, 1, 0, 0]),
+    (Op::Div, [0, 1, 1, 0, 0], [0xC000, 16, ABSENT, 0, 0]),
+    (Op::Mod, [4, 0, 2, 0, 0], [6, 13, 0, 0, 0]),
+    (Op::And, [1, 0, 1, 0, 0], [5, 2, 9, 0, 0]),
+    (Op::Or, [2, 4, 4, 0, 0], [9, 6, 15, 0, 0]),
+    (Op::Xor, [14, 8, 10, 0, 0], [7, 12, 12, 0, 0]),
+    (Op::Not, [4, 2, 0, 0, 0], [6, 0, 0, 0, 0]),
+    (Op::Cmp, [0, 4, 2, 0, 0], [6, 7, 1, 0, 0]),
+    (Op::Tst, [2, 4, 0, 0, 0], [9, 1, 0, 0, 0]),
+    (Op::Index, [0, 2, 1, 0, 0], [6, 0, 4, 0, 0]),
+    (Op::Replace, [2, 4, 1, 0, 0], [0, 1, 4, 7, 0]),
+    (Op::Arrsize, [0, 4, 0, 0, 0], [4, 0, 0, 0, 0]),
+    (Op::Arrbuild, [2, 0, 4, 0, 0], [0, 7, 6, 0, 0]),
+    (Op::Arrsubset, [2, 4, ABSENT, 1, 0], [0, 1, 4, 7, 0]),
+    (Op::Arrinit, [2, 0, 1, 0, 0], [0, 7, ABSENT, 0, 0]),
+    (Op::Mov, [0, 1, 0, 0, 0], [6, 4, 0, 0, 0]),
+    (Op::Set, [0, ABSENT, 0, 0, 0], [4, ABSENT, 0, 0, 0]),
+    (Op::Flatten, [2, 9, 0, 0, 0], [4, 7, 0, 0, 0]),
+    (Op::Unflatten, [9, ABSENT, 2, 9, 0], [6, 4, 4, 7, 0]),
+    (Op::Numtostr, [2, 0, 0, 0, 0], [4, 2, 0, 0, 0]),
+    (
+        Op::Strtonum,
+        [0, ABSENT, 2, ABSENT, 1],
+        [ABSENT, 2, 0, 2, 7],
+    ),
+    (Op::Strcat, [2, 12, 2, 0, 0], [4, 4, 0, 0, 0]),
+    (Op::Strsubset, [2, 12, 0, ABSENT, 0], [0, 4, 2, 2, 0]),
+    (Op::Strtoarr, [2, 12, 0, 0, 0], [4, 4, 0, 0, 0]),
+    (Op::Arrtostr, [12, 2, 0, 0, 0], [0, 0, 0, 0, 0]),
+    (Op::Jmp, [2, 0, 0, 0, 0], [2, 0, 0, 0, 0]),
+    (Op::Brcmp, [4, 0, 1, 0, 0], [4, 7, 4, 0, 0]),
+    (Op::Brtst, [3, 0, 0, 0, 0], [3, 4, 0, 0, 0]),
+    (Op::Syscall, [13, 7, 0, 0, 0], [18, 9, 0, 0, 0]),
+    (Op::Stop, [ABSENT, 0, 0, 0, 0], [4, 0, 0, 0, 0]),
+    (Op::Finclump, [0, ABSENT, 0, 0, 0], [0, ABSENT, 0, 0, 0]),
+    (Op::Finclumpimmed, [0, 0, 0, 0, 0], [1, 0, 0, 0, 0]),
+    (Op::Acquire, [6, 0, 0, 0, 0], [0, 0, 0, 0, 0]),
+    (Op::Release, [6, 0, 0, 0, 0], [ABSENT, 0, 0, 0, 0]),
+    (Op::Subcall, [0, 1, 0, 0, 0], [1, 4, 0, 0, 0]),
+    (Op::Subret, [0, 0, 0, 0, 0], [ABSENT, 0, 0, 0, 0]),
+    (Op::Setin, [0, 1, 5, 0, 0], [4, 4, 6, 0, 0]),
+    (Op::Setout, [4, 14, 1, 0, 0], [7, 15, 4, 0, 0]),
+    (Op::Getin, [0, 1, 0, 0, 0], [ABSENT, 4, 6, 0, 0]),
+    (Op::Getout, [0, 1, 14, 0, 0], [4, 4, 15, 0, 0]),
+    (Op::Wait, [ABSENT, 0, 0, 0, 0], [2, 0, 0, 0, 0]),
+    (Op::Gettick, [0, 0, 0, 0, 0], [ABSENT, 0, 0, 0, 0]),
+];
+
+fn count(op: Op) -> usize
+    ensures { result ≤ 5 }
+{
+    match op.arity() {
+        Arity::Exactly(count) => usize::from(count),
+        Arity::Several | Arity::Pairs => 3,
+    }
+}
+
+// Why a statement and a stop behind it are refused.
+fn fault_of(alloc: Global, toc: &Toc, op: Op, operands: &[u16]) -> Result<Option<CodeFault>, Fail> {
+    let stop = (Op::Stop, Cmp::Lt, [ABSENT].as_slice());
+    let words = words_of(alloc, &[(op, Cmp::Lt, operands), stop])?;
+    fault(alloc, toc, 0, &[], words)
+}
+
+#[test]
+fn each_operand_is_of_its_class(rt: HostRuntime) -> Result<(), Fail> {
+    let alloc = rt.alloc();
+    let layout = layout_of(alloc, &VARIABLES)?;
+    let toc = layout.toc();
+    for (op, right, wrong) in &ROWS {
+        let count = count(*op);
+        assert_eq!(rt; fault_of(alloc, toc, *op, &right[..count])?, None, "{op:?}");
+        for k in 0..count {
+            if wrong[k] != right[k] {
+                let mut operands = *right;
+                operands[k] = wrong[k];
+                let refused = fault_of(alloc, toc, *op, &operands[..count])?;
+                assert_eq!(rt;
+                    refused,
+                    Some(CodeFault::Operand(0, k as u32 + 1)),
+                    "{op:?}, operand {k}"
+                );
+            }
+        }
+    }
+    Ok(())
+}

@@ -1,0 +1,6 @@
+-- Only the values change.
+use Rattle.std.proofs.Common.{◌≡◌}
+use Rattle.nxt_trials_run.proofs.space.check_cuts.Given as goal
+
+abbrev pub invariant-loop-i : goal.invariant-loop-i
+invariant-loop-i g l = l.space.shapes ≡ l.fn.space.shapes

@@ -1,0 +1,6 @@
+-- Only the values change.
+use Rattle.std.proofs.Common.{◌≡◌}
+use Rattle.nxt_trials_run.proofs.space.take_all.Given as goal
+
+abbrev pub invariant-loop-step : goal.invariant-loop-step
+invariant-loop-step g l = l.space.shapes ≡ l.fn.space.shapes

@@ -1,0 +1,6 @@
+-- Only the values change.
+use Rattle.std.proofs.Common.{◌≡◌}
+use Rattle.nxt_trials_run.proofs.statements.set_all.Given as goal
+
+abbrev pub invariant-loop-i : goal.invariant-loop-i
+invariant-loop-i g l = (l.space.entries ≡ l.fn.space.entries) × (l.space.shapes ≡ l.fn.space.shapes)
