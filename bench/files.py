@@ -2,9 +2,11 @@
 """Times large files on a built program: bench/files.py PATH_OF_NXT
 
 Two files have a table of 49,000 entries: they share no byte, or the last stands on the byte of the one before it. Two have
-65,000 code words with a jump in each second statement: each lands on a statement, or the last lands inside one. Three have a
-list of 2,000 or 5,000 lists of a byte each: they share no byte, the last two share theirs, or all share one. In the last one
-lists stand eight deep, and each of 3,000 elements names the same next list. Prints the seconds and the line of each.
+65,000 code words with a jump in each second statement: each lands on a statement, or the last lands inside one. Two have
+21,000 movs of a cluster: one of 24,000 members to itself, or one of 12,000 to another. Three have a list of 2,000 or 5,000
+lists of a byte each: they share no byte, the last two share theirs, or all share one. In one lists stand eight deep, and each
+of 3,000 elements names the same next list. In the rest many variables or many rows name the same overlapping rows. Prints the
+seconds and the line of each.
 """
 import os
 import struct
@@ -15,6 +17,7 @@ import time
 
 ENTRIES = 49000
 PAIRS = 13000
+MOVES = 21000
 MOV = struct.pack("<3H", 0x601B, 0, 0)
 
 
@@ -39,6 +42,21 @@ def table_file(last_place):
 def code_file(last_offset):
     """A file of pairs of a mov and a jump behind it, the last jump by an offset."""
     return image(1, [0], (MOV + jump(2)) * (PAIRS - 1) + MOV + jump(last_offset))
+
+
+def moves_file(clusters, members, first, second):
+    """A file of clusters of so many ubytes, and movs from the one entry to the other."""
+    table = b"".join(
+        struct.pack("<BBH", 8, 0, members)
+        + b"".join(struct.pack("<BBH", 1, 1, members * i + j) for j in range(members))
+        for i in range(clusters)
+    )
+    words = struct.pack("<3H", 0x601B, first, second) * MOVES + jump(0)
+    size = clusters * members
+    head = b"MindstormsNXT\0\0\5" + struct.pack(
+        "<11H", size + clusters, size, size, 0, 0, 0, 0, 0, 0, 1, len(words) // 2
+    )
+    return head + table + struct.pack("<BBH", 0, 0, 0) + words
 
 
 def lists_file(depth, rows, data):
@@ -70,15 +88,86 @@ def deep_file(count):
     return lists_file(8, rows, b"".join(struct.pack("<H", i + 2) * count for i in range(7)) + bytes(count))
 
 
+def nest(depth, place):
+    """The entries of a list in lists of a byte, so deep, at a place."""
+    return [(7, place)] + [(7, 0)] * (depth - 1) + [(1, 0)]
+
+
+def rows_file(entries, numbers, rows, data):
+    """A file of these entries, by code and place, whose variables name rows: a place behind the table, a stride and a count."""
+    static = 2 * len(numbers)
+    behind = static + 10 * (len(rows) + 1)
+    rows = [(0, 10, len(rows) + 1)] + [(behind + at, stride, count) for at, stride, count in rows]
+    rows[0] = (static, 10, len(rows))
+    dynamic = b"".join(struct.pack("<5H", *row, 0, 0) for row in rows) + data
+    size = static + len(dynamic)
+    words = jump(0)
+    head = b"MindstormsNXT\0\0\5" + struct.pack(
+        "<11H", len(entries), size, static, size, static, len(dynamic), 0, 0, static, 1, len(words) // 2
+    )
+    table = b"".join(struct.pack("<BBH", code, 0, place) for code, place in entries)
+    defaults = struct.pack("<%dH" % len(numbers), *numbers) + dynamic
+    return head + table + defaults + b"\0" * (len(defaults) % 2) + struct.pack("<BBH", 0, 0, 0) + words
+
+
+def same_rows_file(variables):
+    """Variables that are lists of 1,500 lists of 6,000 lists, all on the same bytes."""
+    entries = sum((nest(3, 2 * i) for i in range(variables)), [])
+    rows = [(0, 2, 1500)] + [(3000, 2, 6000)] * 1500
+    return rows_file(entries, [1] * variables, rows, struct.pack("<1500H", *range(2, 1502)) + bytes(12000))
+
+
+def full_file(variables, depth, rows, step, first):
+    """Variables so deep whose rows name all rows. Each row begins `step` bytes behind the one before it, and variable i names
+    row first(i)."""
+    entries = sum((nest(depth, 2 * i) for i in range(variables)), [])
+    count = (65000 - 2 * variables - 10 * (rows + 1)) // 2
+    places = [(step * r, 2, count - (step * r + 1) // 2) for r in range(rows)]
+    data = struct.pack("<%dH" % count, *(1 + i % rows for i in range(count)))
+    return rows_file(entries, [first(i) for i in range(variables)], places, data)
+
+
+def pairs_file(variables, width):
+    """Variables of a list of two clusters of so many lists, each of which names another pair of 200 long rows."""
+    inner = [entry for j in range(width) for entry in nest(2, 2 * j)]
+    entries = [entry for i in range(variables) for entry in [(7, 2 * i), (8, width)] + inner]
+    names = [
+        variables + 1 + (i * 37 + j if i % 2 == 0 else i * 91 + j * 7) % 200
+        for i in range(variables + 1)
+        for j in range(width)
+    ]
+    behind = 2 * len(names)
+    count = (65000 - 2 * variables - 10 * (variables + 201) - behind) // 2
+    rows = [(2 * width * i, 2 * width, 2) for i in range(variables)]
+    rows += [(behind + r % 2, 2, count - 1 - r // 2 % 50) for r in range(200)]
+    return rows_file(entries, range(1, variables + 1), rows, struct.pack("<%dH" % len(names), *names) + bytes(2 * count))
+
+
 FILES = (
     ("49,000 entries apart", table_file(ENTRIES - 1)),
     ("their last pair overlaps", table_file(ENTRIES - 2)),
     ("65,000 words of jumps", code_file(-3)),
     ("their last jump is lost", code_file(-2)),
+    ("movs of a cluster to itself", moves_file(1, 24000, 0, 0)),
+    ("movs between two clusters", moves_file(2, 12000, 0, 12001)),
     ("2,000 lists apart", nested_file(2000, 1, 1999)),
     ("their last two overlap", nested_file(2000, 1, 1998)),
     ("5,000 lists on one byte", nested_file(5000, 0, 0)),
     ("eight deep, one list each", deep_file(3000)),
+    ("200 on the same rows", same_rows_file(200)),
+    ("1,000 on the same rows", same_rows_file(1000)),
+    ("10,000 on the same rows", same_rows_file(10000)),
+    ("3,000 rows, four deep", full_file(1, 4, 3000, 0, lambda i: 1)),
+    ("3,000 rows, eight deep", full_file(1, 8, 3000, 0, lambda i: 1)),
+    ("5,000 of 3,000 rows", full_file(5000, 8, 3000, 0, lambda i: 1)),
+    ("5,400 of 500 rows", full_file(5400, 8, 500, 0, lambda i: 1)),
+    ("two rows in turn", full_file(5400, 8, 200, 2, lambda i: 1 + i % 2)),
+    ("rows a byte apart", full_file(5000, 8, 300, 1, lambda i: 1 + i % 300)),
+    ("a row each, 3 deep", full_file(2700, 3, 2700, 2, lambda i: 1 + i)),
+    ("a row each, 8 deep", full_file(2700, 8, 2700, 2, lambda i: 1 + i)),
+    ("10,000 on 1,000 rows", full_file(10000, 3, 1000, 2, lambda i: 1 + i % 1000)),
+    ("5,000 on 2,000 rows", full_file(5000, 8, 2000, 2, lambda i: 1 + i % 2000)),
+    ("16,000 pairs of rows", pairs_file(50, 320)),
 )
 
 
@@ -94,7 +183,7 @@ def main():
             began = time.monotonic()
             done = subprocess.run([nxt, "run", "rxe"] + paths, capture_output=True)
             seconds = time.monotonic() - began
-        print("%-26s %.2f s, status %d: %s" % (name, seconds, done.returncode, done.stdout.decode().strip()))
+        print("%-28s %.2f s, status %d: %s" % (name, seconds, done.returncode, done.stdout.decode().strip()))
 
 
 main()

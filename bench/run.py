@@ -30,6 +30,14 @@ LOOP = image(
     [1, 255, 255, 255, 255],
     [0x8000, 0, 0, 1, 0x8026, 7, 0, 2, 0x602A, 0, 0xFFFF, 0x4025, 0xFFF5],
 )
+# 20,000 jumps: the even ones forward to the next but one, the odd ones back, and round at both ends
+HOPS = 20000
+ROUND = image(
+    [],
+    0,
+    [],
+    [word for i in range(HOPS) for word in (0x4025, {1: 0xFFFE, HOPS - 2: 2}.get(i, 0xFFFC if i % 2 else 4))],
+)
 SCRIPT = b"run,1000000\n" * 4
 
 
@@ -51,6 +59,7 @@ def main():
     nxt = os.path.abspath(sys.argv[1])
     run(nxt, "jump", JUMP)
     run(nxt, "loop", LOOP)
+    run(nxt, "round", ROUND)
 
 
 main()
