@@ -1,5 +1,4 @@
-pub mod Places
 pub mod CodeRules
 pub mod OperandsSeen
 pub mod Decoding
-pub mod Known
+pub mod Inside

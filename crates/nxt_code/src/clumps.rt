@@ -5,7 +5,7 @@ ghost use Rattle.nxt_types.specs.Refusals.{passes};
 ghost use Rattle.nxt_rxe.specs.Files.{dependent_count};
 ghost use Rattle.nxt_code.specs.CodeRules.{is_inside, is_bad_start, names_no_clump};
 ghost use Rattle.nxt_code.specs.Decoding.{IsDecoded};
-ghost use Rattle.nxt_code.specs.Places.{Finds, FindsPair};
+ghost use Rattle.nxt_code.specs.Inside.Places.{Finds, FindsPair};
 
 use crate::statements::Decoded;
 use nxt_types::lists::ClumpRec;

@@ -5,7 +5,7 @@ ghost use Rattle.nxt_types.specs.Refusals.{IsAccepted, IsRefusal};
 ghost use Rattle.nxt_rxe.specs.Files.{dependent_count};
 ghost use Rattle.nxt_code.specs.CodeRules.{program, Broken, rank, is_bad_count, IsFit};
 ghost use Rattle.nxt_code.specs.Decoding.{IsDecoded};
-ghost use Rattle.nxt_code.specs.Places.{Finds};
+ghost use Rattle.nxt_code.specs.Inside.Places.{Finds};
 
 use crate::clumps::{bad_dependent, bad_start};
 use crate::fault::CodeFault;

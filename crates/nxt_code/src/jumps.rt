@@ -4,9 +4,9 @@ ghost use Rattle.std.specs.Prelude.{◌≡◌, ◌≤◌, length};
 ghost use Rattle.nxt_types.specs.Statements.{statement_of};
 ghost use Rattle.nxt_code.specs.CodeRules.{lacks_statement, is_stray_jump, falls_out, leads_nowhere as leads_to_nothing, may_go_on as goes_on_behind};
 ghost use Rattle.nxt_code.specs.Decoding.{IsDecoded};
-ghost use Rattle.nxt_code.specs.Places.{Finds};
+ghost use Rattle.nxt_code.specs.Inside.Places.{Finds};
 
-use crate::statements::{Decoded, Placed};
+use crate::statements::{Decoded, StatementAt};
 use nxt_types::instr::{Instr, Op, landing};
 use nxt_types::words::LEFT_OUT;
 
@@ -37,7 +37,7 @@ pub fn stray_jump(code: &Decoded, words: &[u16]) -> Option<u32>
     None
 }
 
-fn leads_nowhere(code: &Decoded, words: &[u16], placed: &Placed) -> bool
+fn leads_nowhere(code: &Decoded, words: &[u16], placed: &StatementAt) -> bool
     requires { IsDecoded words.now code.now }
     ensures { result ≡ leads_to_nothing words.now placed.now.word (statement_of placed.now.instr words.now) }
 {

@@ -4,7 +4,7 @@ ghost use Rattle.std.specs.Prelude.{◌≡◌, IfOk, OnOk};
 ghost use Rattle.std.specs.BTreeMap.{get};
 ghost use Rattle.nxt_types.specs.Shapes.{Members, convertible, has_list as has_list_shape};
 ghost use Rattle.nxt_types.specs.OperandRules.{element_of, goes_into as goes_into_list};
-ghost use Rattle.nxt_code.specs.Known.{shape_by, pair_cmp, IsKnown};
+ghost use Rattle.nxt_code.specs.Inside.KnownShapes.{shape_by, pair_cmp, IsKnown};
 
 use crate::operands::named;
 use crate::shapes;

@@ -2,7 +2,7 @@
 //! Specification", "Clump Records" and "Bytecode Instructions").
 #![tactic(auto)]
 
-mod beside;
+mod between;
 mod clumps;
 mod code;
 mod fault;
@@ -14,4 +14,4 @@ mod statements;
 
 pub use code::{Code, check_code};
 pub use fault::CodeFault;
-pub use statements::{Decoded, Placed};
+pub use statements::{Decoded, StatementAt};

@@ -6,11 +6,11 @@ ghost use Rattle.nxt_types.specs.Statements.{IsWhole, statement_of};
 ghost use Rattle.nxt_types.specs.OperandRules.{sort_of, sort_at, shape_of as shape_of_sort, word_of, is_of_class as is_of_class_of, operand_fits as is_fit};
 ghost use Rattle.nxt_code.specs.CodeRules.{is_refused_operand, is_bad_operand};
 ghost use Rattle.nxt_code.specs.Decoding.{IsDecoded};
-ghost use Rattle.nxt_code.specs.Known.{shape_by, IsKnown};
+ghost use Rattle.nxt_code.specs.Inside.KnownShapes.{shape_by, IsKnown};
 ghost use Rattle.nxt_code.specs.OperandsSeen.{operands, shape_seen};
-ghost use Rattle.nxt_code.specs.Places.{Finds, FindsPair};
+ghost use Rattle.nxt_code.specs.Inside.Places.{Finds, FindsPair};
 
-use crate::beside::{fits_beside, is_allowed};
+use crate::between::{fits_others, is_allowed};
 use crate::known::Known;
 use crate::shapes::{is_list, is_mutex, is_number, is_text, is_value};
 use crate::statements::Decoded;
@@ -83,7 +83,7 @@ fn operand_fits(
     if !is_of_class(toc, clumps, class, word) || !is_allowed(instr.op, instr, words, k) {
         return Ok(false);
     }
-    fits_beside(known, instr.op, toc, instr, words, k)
+    fits_others(known, instr.op, toc, instr, words, k)
 }
 
 /// The word of operand k where it names a part, counted from 0; else one that names nothing.

@@ -48,7 +48,7 @@ pub fn is_list(shape: Option<&Shape>) -> bool
 }
 
 /// Whether it is a list of ubyte.
-#[tactic(auto, using(crate::proofs::ShapeTests::text_by_element))]
+#[tactic(auto, using(crate::proofs::Arguments::ShapeTests::text_by_element))]
 pub fn is_text(shape: Option<&Shape>) -> bool
     ensures { result ≡ is_text_shape (shape_seen shape.entry) }
 {

@@ -1,15 +1,5 @@
-pub mod Changes
-pub mod Dumped
-pub mod Dumping
-pub mod Freeing
-pub mod Growing
-pub mod Kept
-pub mod OfLength
-pub mod Places
-pub mod Placing
-pub mod Reshaping
-pub mod Resizing
-pub mod Starts
-pub mod Swapping
-pub mod Views
-pub mod Writing
+mod Lists
+mod Pool
+mod Rows
+mod Dumps
+pub mod Laws

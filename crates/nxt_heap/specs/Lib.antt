@@ -1,3 +1,3 @@
 pub mod Dumps
 pub mod Lists
-pub mod Pool
+pub mod Inside

@@ -5,7 +5,7 @@ ghost use Rattle.std.specs.List.{SameBelow, SameFrom};
 ghost use Rattle.nxt_types.specs.Pool.{round4 as rounded, pool_size};
 ghost use Rattle.nxt_rows.specs.Rows.{dope_row, row_count, no_place, free_rows};
 ghost use Rattle.nxt_heap.specs.Lists.{empty_list};
-ghost use Rattle.nxt_heap.specs.Pool.{row_bytes as bytes_in_row, row_block, start_of, end_of, row_in_place, lists_in, lists_with_length, lists_with_byte, Takes, IsFull, IsDense};
+ghost use Rattle.nxt_heap.specs.Inside.Pool.{row_bytes as bytes_in_row, row_block, start_of, end_of, row_in_place, lists_in, lists_with_length, lists_with_byte, Takes, IsFull, IsDense};
 
 use crate::passed::PoolPassed;
 use nxt_rows::{DopeRow, NO_PLACE, free_row, get, set, take_row};
@@ -26,7 +26,7 @@ pub fn byte_count(row: DopeRow) -> u32
 }
 
 /// How many bytes a row's block has.
-#[tactic(auto, unfolding(crate::specs::Pool::row_block))]
+#[tactic(auto, unfolding(crate::specs::Inside::Pool::row_block))]
 pub fn block_bytes(row: DopeRow) -> u32
     requires { row_block row ≤ pool_size }
     ensures { result ≡ row_block row }

@@ -1,8 +1,8 @@
-ghost use Rattle.std.specs.Prelude.{◌≡◌, ◌+◌, ◌*◌, ◌<◌, ◌≤◌, ℕ, length, slice_index, slice_set, OnOk, OnErr, IfErr, IfOk, IsTrue, ◌%◌, None};
+ghost use Rattle.std.specs.Prelude.{◌≡◌, ◌+◌, ◌*◌, ◌<◌, ◌≤◌, ℕ, length, slice_index, slice_set, OnOk, OnErr, IfErr, IfOk, IfSome, ◌%◌, None};
 ghost use Rattle.nxt_types.specs.Pool.{round4 as rounded, pool_size};
 ghost use Rattle.nxt_heap.specs.Dumps.{HoldHeap};
 ghost use Rattle.nxt_heap.specs.Lists.{IsAlive, list_at, stride_at, bytes_at, table_of, footprint, Passes, IsFree, with_free, with_free_row, empty_list, zero_heap, with_list, with_length, with_byte};
-ghost use Rattle.nxt_heap.specs.Pool.{Shows, state_of, IsHeap};
+ghost use Rattle.nxt_heap.specs.Inside.Pool.{Shows, state_of, IsHeap};
 
 use crate::blocks::{
     block_bytes, free_block, lay_out, new_list, resize_block, row_bytes, write_byte,
@@ -27,7 +27,7 @@ pub struct Heap {
 
 impl Model for Heap {
     ghost use Rattle.nxt_heap.specs.Lists.{Lists};
-    ghost use Rattle.nxt_heap.specs.Pool.{state_of, IsHeap};
+    ghost use Rattle.nxt_heap.specs.Inside.Pool.{state_of, IsHeap};
 
     ghost Value = { Lists };
 
@@ -132,6 +132,20 @@ impl Heap {
         self.end -= had;
     }
 
+    /// How many bytes the elements of a row's list are apart; `None` where the row has no list.
+    pub fn stride(&self, row: u16) -> Option<u16>
+        ensures alive { IfSome result (λ _. IsAlive self.now row) }
+        ensures stride { IfSome result (λ stride. stride ≡ stride_at self.now row) }
+        ensures none { result ≡ None → list_at self.now row ≡ None }
+    {
+        let table = table_above(self.static_size);
+        if row == 0 || row >= get(&self.pool, table, 0).count {
+            return None;
+        }
+        let stride = get(&self.pool, table, row).stride;
+        if stride == 0 { None } else { Some(stride) }
+    }
+
     /// The bytes of a list.
     pub fn bytes_of(&self, row: u16) -> &[u8]
         requires { IsAlive self.now row }
@@ -226,160 +240,4 @@ fn start(pool: &mut [u8], static_size: u32, rows: u16) -> u32
     let table = table_above(static_size);
     lay_out(pool, table, rows);
     table + round4(ROW_BYTES * rows as u64) as u32
-}
-
-#[cfg(test)]
-mod tests {
-    use super::*;
-    use std::process::Abort;
-    use std::test::Fail;
-
-    /// Whether a row has a list.
-    fn is_alive(heap: &Heap, row: u16) -> bool
-        ensures { IsTrue result → IsAlive heap.now row }
-    {
-        let table = table_above(heap.static_size);
-        if row == 0 {
-            return false;
-        }
-        if row >= get(&heap.pool, table, 0).count {
-            return false;
-        }
-        get(&heap.pool, table, row).stride != 0
-    }
-
-    /// How far a list's elements are apart.
-    fn stride(heap: &Heap, row: u16) -> u16
-        requires { IsAlive heap.now row }
-        ensures { result ≡ stride_at heap.now row }
-    {
-        get(&heap.pool, table_above(heap.static_size), row).stride
-    }
-
-    fn resize(rt: &impl Abort, heap: &mut Heap, row: u16, bytes: u32) -> Result<(), PoolPassed> {
-        let living = is_alive(heap, row);
-        assert!(rt; living);
-        let stride = stride(heap, row);
-        assert!(rt; stride > 0);
-        assert!(rt; bytes % stride as u32 == 0);
-        heap.resize(row, bytes)
-    }
-
-    fn free(rt: &impl Abort, heap: &mut Heap, row: u16) {
-        let living = is_alive(heap, row);
-        assert!(rt; living);
-        heap.free_array(row);
-    }
-
-    // A byte that differs from row to row and from place to place.
-    fn mark(row: u16, at: usize) -> u8 {
-        (at % 61 + row as usize % 3 * 64 + 1) as u8
-    }
-
-    /// The list has that many bytes: its marks first, and then zeros.
-    fn expect_list(rt: &impl Abort, heap: &Heap, row: u16, marks: usize, bytes: usize) {
-        let living = is_alive(heap, row);
-        assert!(rt; living);
-        let found = heap.bytes_of(row);
-        assert_eq!(rt; found.len(), bytes);
-        for (at, &byte) in found.iter().enumerate() {
-            assert_eq!(rt;
-                byte,
-                if at < marks { mark(row, at) } else { 0 },
-                "row {row} at {at}"
-            );
-        }
-    }
-
-    fn write_marks(rt: &impl Abort, heap: &mut Heap, row: u16, bytes: u32) {
-        for at in 0..bytes {
-            let living = is_alive(heap, row);
-            assert!(rt; living);
-            let len = heap.bytes_of(row).len();
-            assert!(rt; (at as usize) < len);
-            heap.write(row, at, mark(row, at as usize));
-        }
-    }
-
-    #[test]
-    fn heap_by_hand(rt: HostRuntime) -> Result<(), Fail> {
-        let mut heap = Heap::new(rt.alloc(), 8, 1)?;
-        assert_eq!(rt; heap.footprint(), 20);
-        assert_eq!(rt; heap.new_array(1), Ok(1));
-        assert_eq!(rt; heap.footprint(), 28);
-        assert_eq!(rt; resize(&rt, &mut heap, 1, 5), Ok(()));
-        assert_eq!(rt; heap.footprint(), 36);
-        assert_eq!(rt; resize(&rt, &mut heap, 1, 32741), Err(PoolPassed(32772)));
-        assert_eq!(rt; heap.footprint(), 36);
-        assert_eq!(rt; resize(&rt, &mut heap, 1, 32740), Ok(()));
-        assert_eq!(rt; heap.footprint(), 32768);
-        assert_eq!(rt; heap.new_array(1), Err(PoolPassed(32780)));
-        assert_eq!(rt; heap.dump(rt.alloc())?.len(), 32768);
-        Ok(())
-    }
-
-    #[test]
-    fn every_block_moves_with_its_bytes(rt: HostRuntime) -> Result<(), Fail> {
-        let mut heap = Heap::new(rt.alloc(), 6, 3)?;
-        let mut lengths = [0; 7];
-        for _ in 0..4 {
-            assert_eq!(rt; heap.new_array(2).is_ok(), true);
-        }
-        let steps = [
-            (1, 8),
-            (2, 6),
-            (3, 14),
-            (4, 2),
-            (1, 20),
-            (3, 4),
-            (2, 0),
-            (1, 2),
-            (4, 30),
-            (2, 10),
-        ];
-        for (row, bytes) in steps {
-            assert!(rt; row < 7);
-            let had = lengths[row];
-            assert_eq!(rt; resize(&rt, &mut heap, row as u16, bytes), Ok(()));
-            expect_list(
-                &rt,
-                &heap,
-                row as u16,
-                had.min(bytes) as usize,
-                bytes as usize,
-            );
-            write_marks(&rt, &mut heap, row as u16, bytes);
-            lengths[row] = bytes;
-            for other in 1..5 {
-                let bytes = lengths[other] as usize;
-                expect_list(&rt, &heap, other as u16, bytes, bytes);
-            }
-        }
-        free(&rt, &mut heap, 2);
-        assert_eq!(rt; heap.new_array(3), Ok(2));
-        assert_eq!(rt; heap.new_array(3), Ok(5));
-        expect_list(&rt, &heap, 1, 2, 2);
-        expect_list(&rt, &heap, 2, 0, 0);
-        expect_list(&rt, &heap, 3, 4, 4);
-        expect_list(&rt, &heap, 4, 30, 30);
-        Ok(())
-    }
-
-    #[test]
-    fn a_restart_leaves_zeros_and_free_rows(rt: HostRuntime) -> Result<(), Fail> {
-        let mut heap = Heap::new(rt.alloc(), 6, 3)?;
-        heap.set_byte(5, 7);
-        assert_eq!(rt; heap.byte(5), 7);
-        assert_eq!(rt; heap.new_array(1), Ok(1));
-        heap.restart(2);
-        assert_eq!(rt; heap.byte(5), 0);
-        assert_eq!(rt; heap.row_count(), 2);
-        assert_eq!(rt; heap.table_place(), 8);
-        assert_eq!(rt; heap.footprint(), 28);
-        assert_eq!(rt; heap.compact(1), 0);
-        assert_eq!(rt; heap.unsettled(), 0);
-        assert_eq!(rt; heap.new_array(1), Ok(1));
-        assert_eq!(rt; heap.new_array(1), Ok(2));
-        Ok(())
-    }
 }

@@ -9,7 +9,7 @@ use Rattle.nxt_types.specs.declared.instr.Op.{Op}
 use Rattle.nxt_types.specs.declared.instr.Op.TheVariants as ops
 use Rattle.nxt_types.specs.Opcodes.{opcode, op_of, Arity, exactly, several, pairs, arity, takes, has_comparison}
 use Rattle.nxt_types.specs.Statements.{statement, with_words, short_form, short_forms, sized_form, fixed_form, by_arity, comparisons, comparison_number, comparison_of, long_form, statement_at, IsStatement, first_word, long_words, long_form_of}
-use Rattle.nxt_types.proofs.OpcodeLemmas.{few_operands, op_of_opcode}
+use Rattle.nxt_types.proofs.Laws.Opcodes.{few_operands, op_of_opcode}
 use Rattle.nxt_instr.specs.Decoded.{form_by}
 
 -- ---- the first word

@@ -10,7 +10,7 @@ use Rattle.nxt_types.specs.declared.instr.Op.TheVariants as ops
 use Rattle.nxt_types.specs.declared.instr.Instr.{Instr}
 use Rattle.nxt_types.specs.Opcodes.{op_of, Arity, exactly, several, pairs, arity, takes, has_comparison}
 use Rattle.nxt_types.specs.Statements.{Statement, statement, Spelled, with_words, short_form, short_forms, two, one, short_pair, plus_argument, sized_form, fixed_form, by_arity, comparisons, comparison_of, long_form, statement_at, args_of, statement_of}
-use Rattle.nxt_types.proofs.OpcodeLemmas.{few_operands}
+use Rattle.nxt_types.proofs.Laws.Opcodes.{few_operands}
 use Rattle.nxt_instr.specs.Decoded.{operand, instr_by, instr_of, decoded, form_by}
 
 -- the others of the operands are the words behind the first two

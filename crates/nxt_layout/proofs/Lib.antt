@@ -1,46 +1,5 @@
-mod LayoutRows
-pub mod StartLaw
-mod OpenRows
-pub mod Opening
-pub mod Whole
-pub mod Marks
-pub mod First
-pub mod LeafLemmas
-pub mod Pairs
-pub mod Defaults
-pub mod Taking
-pub mod Shaping
-pub mod Settled
-pub mod Starting
-pub mod Owning
-pub mod Each
-pub mod Totals
-pub mod SumsBelow
-pub mod Found
-pub mod Fair
-pub mod FairReads
-pub mod RowCounts
-pub mod SameStrides
-pub mod Naming
-pub mod Leading
-pub mod Below
-pub mod SpanLemmas
-pub mod OwnRows
-pub mod ApartRows
-pub mod LeafOrder
-pub mod StrideFree
-pub mod RulesKept
-pub mod Starts
-pub mod StartSize
-pub mod Ordered
-pub mod Twice
-pub mod Walking
-pub mod Reached
-pub mod Scanned
-pub mod Through
-pub mod Keys
-pub mod RowRules
-pub mod RowStart
-pub mod ArrayLemmas
-pub mod Judging
-pub mod Decided
+mod Dope
+mod Start
+mod Rules
+pub mod Laws
+mod Examples

@@ -1,54 +1,22 @@
 -- When a file is refused for its table and data.
-use Rattle.std.specs.Prelude.{◌≡◌, ◌<◌, ℕ, ◌+◌, ◌*◌, Bool, ◌&&◌, ◌||◌, not, ◌==◌, nat_lt, nat_le, List, [], ◌∷◌, length, take, count_by, slice_get, if◌then◌else◌, IsTrue}
+use Rattle.std.specs.Prelude.{◌≡◌, ◌<◌, ℕ, ◌+◌, ◌*◌, Bool, ◌&&◌, ◌||◌, not, ◌==◌, nat_lt, nat_le, List, [], ◌∷◌, count_by, if◌then◌else◌}
 use Rattle.std.specs.List.{list_any}
 use Rattle.nxt_types.specs.Refusals.{passes}
-use Rattle.nxt_types.specs.Shapes.{Shape, Members, Spells, some_list}
-use Rattle.nxt_types.specs.declared.shape.TocEntry.{TocEntry}
+use Rattle.nxt_types.specs.Shapes.{Members, some_list}
 use Rattle.nxt_rxe.specs.declared.parts.Header.{Header}
 use Rattle.nxt_rxe.specs.declared.parts.Parts.{Parts}
 use Rattle.nxt_model.specs.Values.{Value}
 use Rattle.nxt_types.specs.Pool.{pool_size}
 use Rattle.nxt_model.specs.Reading.{row_count}
+use Rattle.nxt_table.specs.declared.fault.TableFault.{TableFault}
+use Rattle.nxt_table.specs.declared.fault.TableFault.TheVariants as table
+use Rattle.nxt_table.specs.Leaves.{Leaf, leaf_of}
+use Rattle.nxt_table.specs.TableRules as table_rules
+use Rattle.nxt_table.specs.TableRules.{OfShapes}
 use Rattle.nxt_layout.specs.declared.fault.LayoutFault.{LayoutFault}
-use Rattle.nxt_layout.specs.declared.fault.LayoutFault.TheVariants.{TypeCode, TypeOpen, Depth, MutexInside, Place, Overlap, DefaultsShort, RowZero, RowIndex, RowShared, Stride, RowPlace, RowOverlap, PoolPassed, NoMemory}
-use Rattle.nxt_layout.specs.Leaves.{Site, Leaf, sites, sites_in, voids_stand_alone, AreShapes, leaves, leaf_of, end_of, is_outside, are_together, is_mutex}
-use Rattle.nxt_layout.specs.Dataspace.{default_end}
+use Rattle.nxt_layout.specs.declared.fault.LayoutFault.TheVariants.{Table, RowZero, RowIndex, RowShared, Stride, RowPlace, RowOverlap, PoolPassed, NoMemory}
 use Rattle.nxt_layout.specs.Rows.{Ground, row, row_end, is_placed, is_strided, is_beyond, numbers_of, reached_through, reached, arrays_of, is_full}
 use Rattle.nxt_layout.specs.Start.{ground, StartsAs, start_footprint}
-
--- ---- the table
-
--- the code of a type is not known
-abbrev pub has_unknown_code : TocEntry → Bool
-has_unknown_code e = nat_lt 9 e.code
-
--- whole variables end before the entry, and none begins at it that the table spells to its end
-pub record IsOpen (table : List TocEntry) (e : ℕ) : Type 0 where
-  pub before : Members
-  pub whole : AreShapes (take e table) before
-  pub inside : e < length table
-  pub opens : (j : ℕ) (s : Shape) → Spells table e j s → IsTrue (voids_stand_alone (sites_in s 0 0 [])) → ⊥
-
--- more than 8 arrays and clusters enclose it
-abbrev pub is_too_deep : Site → Bool
-is_too_deep s = nat_lt 8 s.depth
-
-abbrev pub is_mutex_inside : Site → Bool
-is_mutex_inside s = is_mutex s.shape && nat_lt 0 s.depth
-
--- ---- the leaves
-
--- it ends behind the static bytes, or behind an element's greatest length
-abbrev pub is_misplaced : ℕ → Leaf → Bool
-is_misplaced static_size l = nat_lt (if is_outside l.arrays then static_size else 32768) (end_of l)
-
--- of a and the later b, outside or in one element
-abbrev pub share_a_byte : Leaf → Leaf → Bool
-share_a_byte a b =
-    nat_lt a.entry b.entry && are_together a.arrays b.arrays && nat_lt a.place (end_of b) && nat_lt b.place (end_of a)
-
-abbrev pub lacks_default : Parts → List Leaf → Leaf → Bool
-lacks_default p ls l = l.has_default && nat_lt p.header.default_size (default_end ls l)
 
 -- ---- the rows
 
@@ -110,30 +78,13 @@ pub record PassesPool (p : Parts) (size : ℕ) : Type 0 where
 
 -- ---- rules
 
--- a test of the file's variables
-abbrev pub OfShapes : Parts → (Members → Bool) → Type 0
-OfShapes p test = (ss : Members) × AreShapes p.toc ss × IsTrue (test ss)
-
--- a test of the leaf of an entry, and one of two entries
-abbrev pub of_leaf : Parts → ℕ → (List Leaf → Leaf → Bool) → Members → Bool
-of_leaf p e test ss = let ls = leaves p.toc ss in passes (test ls) (leaf_of ls e)
-
-abbrev pub of_leaves : Parts → ℕ → ℕ → (Leaf → Leaf → Bool) → Members → Bool
-of_leaves p a b test ss = of_leaf p a (λ ls l. passes (test l) (leaf_of ls b)) ss
-
 -- a test of the file's rows
 abbrev pub of_rows : Parts → (Ground → Bool) → Members → Bool
 of_rows p test ss = some_list ss && test (ground p ss)
 
 -- the rule of the fault is broken at the fault's place
 abbrev pub Broken : Parts → LayoutFault → Type 0
-Broken p (TypeCode e) = IsTrue (passes has_unknown_code (slice_get p.toc e))
-Broken p (TypeOpen e) = IsOpen p.toc e
-Broken p (Depth e) = OfShapes p (λ ss. passes is_too_deep (slice_get (sites ss) e))
-Broken p (MutexInside e) = OfShapes p (λ ss. passes is_mutex_inside (slice_get (sites ss) e))
-Broken p (Place e) = OfShapes p (of_leaf p e (λ ls. is_misplaced p.header.static_size))
-Broken p (Overlap a b) = OfShapes p (of_leaves p a b share_a_byte)
-Broken p (DefaultsShort e) = OfShapes p (of_leaf p e (lacks_default p))
+Broken p (Table f) = table_rules.Broken p f
 Broken p RowZero = OfShapes p (lacks_table p)
 Broken p (RowIndex e) = OfShapes p (of_rows p (λ g. passes (names_no_row g) (leaf_of (arrays_of g) e)))
 Broken p (RowShared r) = OfShapes p (of_rows p (λ g. is_shared g r))
@@ -145,13 +96,7 @@ Broken p NoMemory = ⊥
 
 -- the rule's number, and the place
 abbrev pub rank : LayoutFault → List ℕ
-rank (TypeCode e) = 5 ∷ e ∷ []
-rank (TypeOpen e) = 6 ∷ e ∷ []
-rank (Depth e) = 7 ∷ e ∷ []
-rank (MutexInside e) = 8 ∷ e ∷ []
-rank (Place e) = 9 ∷ e ∷ []
-rank (Overlap a b) = 10 ∷ a ∷ b ∷ []
-rank (DefaultsShort e) = 11 ∷ e ∷ []
+rank (Table f) = table_rules.rank f
 rank RowZero = 12 ∷ []
 rank (RowIndex e) = 13 ∷ e ∷ []
 rank (RowShared r) = 14 ∷ r ∷ []
@@ -160,3 +105,8 @@ rank (RowPlace r) = 16 ∷ r ∷ []
 rank (RowOverlap q r) = 17 ∷ q ∷ r ∷ []
 rank (PoolPassed size) = 18 ∷ size ∷ []
 rank NoMemory = []
+
+-- a fault of the table, as one of these
+abbrev pub of_table : TableFault → LayoutFault
+of_table table.NoMemory = NoMemory
+of_table f = Table f

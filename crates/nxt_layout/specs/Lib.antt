@@ -1,13 +1,5 @@
-pub mod Items
-pub mod Enclosing
-pub mod Leaves
-pub mod Dataspace
-pub mod LeafPasses
-pub mod Owners
-pub mod Shaping
 pub mod Rows
-pub mod RowPasses
-pub mod Known
 pub mod Start
 pub mod LayoutRules
 pub mod Layouts
+pub mod Inside

@@ -1,9 +1,10 @@
 -- The rows that a file's arrays name.
-use Rattle.std.specs.Prelude.{ℕ, zero, suc, ◌+◌, ◌*◌, Bool, true, false, ◌&&◌, ◌||◌, not, ◌==◌, nat_lt, nat_le, List, [], ◌∷◌, map, filter, flat_map, length, Option, Some, None}
+use Rattle.std.specs.Prelude.{ℕ, ◌+◌, ◌*◌, Bool, true, false, ◌&&◌, ◌||◌, not, ◌==◌, nat_lt, nat_le, List, [], ◌∷◌, map, filter, flat_map, length, Option, Some, None}
 use Rattle.std.specs.List.{list_all, list_any}
 use Rattle.nxt_types.specs.Shapes.{Shape, Array}
 use Rattle.nxt_model.specs.Reading.{Memory, DopeRow, dope_row, row_count, leaf_place, u16_in}
-use Rattle.nxt_layout.specs.Leaves.{Leaf, extent}
+use Rattle.nxt_facts.specs.Places.{places_from}
+use Rattle.nxt_table.specs.Leaves.{Leaf, extent}
 
 -- a file's memory, where its static bytes end, and its leaves
 pub record Ground : Type 0 where
@@ -44,10 +45,6 @@ stride_or g bytes None = bytes
 stride_or g bytes (Some r) = (row g r).stride
 
 -- the places of a row's elements
-abbrev pub places_from : ℕ → ℕ → ℕ → List ℕ
-places_from at stride zero = []
-places_from at stride (suc n) = at ∷ places_from (at + stride) stride n
-
 abbrev pub elements_of : Ground → ℕ → List ℕ
 elements_of g r = places_from (row g r).place (row g r).stride (row g r).count
 

@@ -1,14 +1,18 @@
 -- The variables of an accepted file at the start, with the strides of their lists.
-use Rattle.std.specs.Prelude.{◌≡◌, ℕ, ◌+◌, List, find, if◌then◌else◌, Option, Some, None}
-use Rattle.nxt_types.specs.Shapes.{Shape, Void, Number, Array, Cluster, Mutex, Members, no_members, member, some_list}
-use Rattle.nxt_types.specs.Names.{size}
+use Rattle.std.specs.Prelude.{◌≡◌, ℕ, List, find, if◌then◌else◌, Option, Some, None}
+use Rattle.nxt_types.specs.Shapes.{Members, some_list}
 use Rattle.nxt_rxe.specs.declared.parts.Parts.{Parts}
 use Rattle.nxt_model.specs.Values.{Value, lists_in}
 use Rattle.nxt_model.specs.Footprint.{footprint, rows_for}
-use Rattle.nxt_model.specs.Reading.{HeldList, ReadsAs, row_count}
-use Rattle.nxt_layout.specs.Leaves.{Leaf, leaves, leaf_of, extent, AreShapes}
-use Rattle.nxt_layout.specs.Dataspace.{memory}
+use Rattle.nxt_model.specs.Reading.{Memory, HeldList, ReadsAs, row_count}
+use Rattle.nxt_table.specs.Leaves.{Leaf, leaves, leaf_of, extent, AreShapes}
+use Rattle.nxt_table.specs.Dataspace.{dataspace}
+use Rattle.nxt_table.specs.Strides.{all_with_strides}
 use Rattle.nxt_layout.specs.Rows.{Ground, has_elements, stride_or, reached_through}
+
+-- the bytes of the variables, with the table of rows in them
+abbrev pub memory : Parts → Members → Memory
+memory p ss = record { entries = p.toc; bytes = dataspace p ss; table = p.header.dope_at }
 
 abbrev pub ground : Parts → Members → Ground
 ground p ss = record { memory = memory p ss; static_size = p.header.static_size; leaves = leaves p.toc ss }
@@ -22,19 +26,6 @@ stride_through g (Some l) = stride_or g (extent g.leaves l.entry) (find (has_ele
 
 abbrev pub stride_of : Ground → ℕ → ℕ
 stride_of g a = stride_through g (leaf_of g.leaves a)
-
--- a shape, of which the first entry is entry i, with the strides that f gives for its entries
-abbrev mutual
-  pub with_strides : (ℕ → ℕ) → ℕ → Shape → Shape
-  with_strides f i Void = Void
-  with_strides f i (Number k) = Number k
-  with_strides f i (Array n s) = Array (f i) (with_strides f (i + 1) s)
-  with_strides f i (Cluster ss) = Cluster (all_with_strides f (i + 1) ss)
-  with_strides f i Mutex = Mutex
-
-  pub all_with_strides : (ℕ → ℕ) → ℕ → Members → Members
-  all_with_strides f i no_members = no_members
-  all_with_strides f i (member s ss) = member (with_strides f i s) (all_with_strides f (i + size s) ss)
 
 -- ---- the start
 

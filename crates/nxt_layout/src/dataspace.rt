@@ -3,7 +3,7 @@
 ghost use Rattle.std.specs.Prelude.{◌≡◌, ◌<◌, ◌≤◌, ◌^◌, ◌+◌, ◌*◌, ◌-◌, slice_index};
 ghost use Rattle.nxt_model.specs.Reading.{u16_in, row_count};
 ghost use Rattle.nxt_layout.specs.Rows.{row as dope_row, row_end, has_elements as row_has_elements, is_placed as row_is_placed};
-ghost use Rattle.nxt_layout.specs.RowPasses.{ground_of, row_bytes as rounded_bytes};
+ghost use Rattle.nxt_layout.specs.Inside.RowPasses.{ground_of, row_bytes as rounded_bytes};
 
 use nxt_types::pool::{ROW_BYTES, round4};
 

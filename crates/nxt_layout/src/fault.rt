@@ -3,6 +3,7 @@
 ghost use Rattle.std.specs.Prelude.{◌≡◌};
 ghost use Rattle.nxt_layout.specs.declared.fault.LayoutFault.TheVariants.{NoMemory as no_memory};
 
+use nxt_table::TableFault;
 use nxt_types::NoMemory;
 use nxt_types::refusal::BrokenRule;
 use std::alloc::{AllocError, AllocFailed};
@@ -12,20 +13,8 @@ use std::alloc::{AllocError, AllocFailed};
 /// from 0 in the table, rows from 0 in the table of rows.
 #[derive(Clone, Copy, PartialEq, Eq, Debug)]
 pub enum LayoutFault {
-    /// An entry whose type code is none of 0 to 9.
-    TypeCode(u32),
-    /// The entry at which a variable begins that is cut off by the table's end, or has an empty cluster or a void inside.
-    TypeOpen(u32),
-    /// An entry that more than 8 arrays and clusters enclose.
-    Depth(u32),
-    /// The entry of a mutex in an array or a cluster.
-    MutexInside(u32),
-    /// The entry of a leaf that ends past the static bytes, or past the greatest element.
-    Place(u32),
-    /// Two entries whose leaves share a byte, the first of them first.
-    Overlap(u32, u32),
-    /// The entry of a leaf whose default ends past the default data.
-    DefaultsShort(u32),
+    /// A rule of the table, of its leaves or of their defaults.
+    Table(TableFault),
     /// The table of rows doesn't lie behind the static bytes in the dataspace, or row 0 doesn't tell it.
     RowZero,
     /// The entry of an array that names a row past the table of rows.
@@ -42,6 +31,19 @@ pub enum LayoutFault {
     PoolPassed(u64),
     /// The host's memory was not there.
     NoMemory,
+}
+
+impl From<TableFault> for LayoutFault {
+    ghost use Rattle.nxt_layout.specs.LayoutRules.{of_table};
+
+    ghost from_gives = { λ t f. f ≡ of_table t };
+
+    fn from(fault: TableFault) -> Self {
+        match fault {
+            TableFault::NoMemory => LayoutFault::NoMemory,
+            _ => LayoutFault::Table(fault),
+        }
+    }
 }
 
 impl From<NoMemory> for LayoutFault {
@@ -69,23 +71,17 @@ impl<T: Drop> From<AllocFailed<T>> for LayoutFault {
 }
 
 impl LayoutFault {
-    ghost use Rattle.std.specs.Prelude.{◌≡◌, IfOk, OnErr};
+    ghost use Rattle.std.specs.Prelude.{◌≡◌, [], IfOk, OnErr};
     ghost use Rattle.nxt_types.specs.BrokenRules.{rule_and_place};
     ghost use Rattle.nxt_layout.specs.LayoutRules.{rank};
 
     /// The broken rule with its place; an `Err` where there was no memory.
     pub fn broken_rule(self) -> Result<BrokenRule, NoMemory>
         ensures rule { IfOk result (λ b. rule_and_place b ≡ rank self) }
-        ensures memory { OnErr result (self ≡ LayoutFault.NoMemory) }
+        ensures memory { OnErr result (rank self ≡ []) }
     {
         match self {
-            LayoutFault::TypeCode(entry) => Ok(BrokenRule::at(5, entry)),
-            LayoutFault::TypeOpen(entry) => Ok(BrokenRule::at(6, entry)),
-            LayoutFault::Depth(entry) => Ok(BrokenRule::at(7, entry)),
-            LayoutFault::MutexInside(entry) => Ok(BrokenRule::at(8, entry)),
-            LayoutFault::Place(entry) => Ok(BrokenRule::at(9, entry)),
-            LayoutFault::Overlap(first, second) => Ok(BrokenRule::pair(10, first, second)),
-            LayoutFault::DefaultsShort(entry) => Ok(BrokenRule::at(11, entry)),
+            LayoutFault::Table(fault) => fault.broken_rule(),
             LayoutFault::RowZero => Ok(BrokenRule::whole(12)),
             LayoutFault::RowIndex(entry) => Ok(BrokenRule::at(13, entry)),
             LayoutFault::RowShared(row) => Ok(BrokenRule::at(14, row)),

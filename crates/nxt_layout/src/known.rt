@@ -3,11 +3,11 @@
 ghost use Rattle.std.specs.Prelude.{◌≡◌, ◌<◌, ◌≤◌, ◌^◌, [], ◌∷◌, flat_map, length, IfOk, OnOk};
 ghost use Rattle.std.specs.Rc.{rc_slice_items};
 ghost use Rattle.nxt_layout.specs.Rows.{elements_of};
-ghost use Rattle.nxt_layout.specs.RowPasses.{ground_of, IsCounted};
-ghost use Rattle.nxt_layout.specs.Known.{ArePlaced, IsFoundIn, IsKnown, IsSame, IsToldBy};
+ghost use Rattle.nxt_layout.specs.Inside.RowPasses.{ground_of, IsCounted};
+ghost use Rattle.nxt_layout.specs.Inside.Known.{ArePlaced, IsFoundIn, IsKnown, IsSame, IsToldBy};
 
 use crate::dataspace::Dataspace;
-use crate::names::Names;
+use crate::named_rows::NamedRows;
 use crate::places::places_of;
 use crate::strides::read_rows;
 use nxt_types::NoMemory;
@@ -38,7 +38,7 @@ pub fn found_outside(
     requires { place < 2 ^ 16 }
     ensures { IfOk result (IsFoundIn (ground_of space.now) place bytes (0 ∷ [])) }
 {
-    let mut names = Names::new(alloc, space.rows())?;
+    let mut names = NamedRows::new(alloc, space.rows())?;
     names.take(space.number_at(place))?;
     found_of(alloc, space, names, 1, bytes)
 }
@@ -81,7 +81,7 @@ fn found_anew(
     requires placed { ArePlaced (ground_of space.now) rows.now }
     ensures { IfOk result (IsFoundIn (ground_of space.now) place bytes (flat_map (elements_of (ground_of space.now)) rows.now)) }
 {
-    let mut names = Names::new(alloc, space.rows())?;
+    let mut names = NamedRows::new(alloc, space.rows())?;
     let lists = elements(space, rows);
     let places = places_of(alloc, space, rows, lists)?;
     names.take_at(space, places.as_slice(), place)?;
@@ -92,7 +92,7 @@ fn found_anew(
 fn found_of(
     alloc: Global,
     space: &Dataspace,
-    names: Names,
+    names: NamedRows,
     lists: u64,
     bytes: u32,
 ) -> Result<Found, NoMemory>

@@ -1,31 +1,32 @@
 // The layout of a file's data.
 
-ghost use Rattle.std.specs.Prelude.{◌≡◌, ◌<◌, ◌≤◌, ◌^◌, length, map, slice_index, All, IfOk, IfErr, OnOk, None, Some, IsTrue, ◌⊎◌};
+ghost use Rattle.std.specs.Prelude.{◌≡◌, ◌<◌, ◌≤◌, ◌^◌, length, map, slice_index, All, IfOk, IfErr, None, Some, ◌⊎◌};
 ghost use Rattle.nxt_types.specs.Shapes.{Members};
 ghost use Rattle.nxt_types.specs.Tables.{trees_of, outside_among, variables_of};
 ghost use Rattle.nxt_types.specs.Refusals.{IsRefusal};
 ghost use Rattle.nxt_rxe.specs.Files.{HasCounts};
-ghost use Rattle.nxt_layout.specs.Leaves.{AreShapes};
-ghost use Rattle.nxt_layout.specs.Start.{all_with_strides};
+ghost use Rattle.nxt_table.specs.Leaves.{AreShapes};
+ghost use Rattle.nxt_table.specs.Strides.{all_with_strides};
+ghost use Rattle.nxt_table.specs.Inside.Enclosing.{placed_entries as entries_placed};
+ghost use Rattle.nxt_table.specs.Inside.Checks.{leaves_of as leaves_in};
+ghost use Rattle.nxt_table.specs.KeptTables.{KeepsTable};
 ghost use Rattle.nxt_layout.specs.LayoutRules.{rank, Broken};
-ghost use Rattle.nxt_layout.specs.RowPasses.{ground_of, through, all_rows, IsMarked};
+ghost use Rattle.nxt_layout.specs.Inside.RowPasses.{ground_of, through, all_rows, IsMarked};
 ghost use Rattle.nxt_layout.specs.declared.fault.LayoutFault.TheVariants.{NoMemory as no_memory};
-ghost use Rattle.nxt_layout.specs.Dataspace.{dynamic_bytes};
-ghost use Rattle.nxt_layout.specs.Enclosing.{placed_entries as entries_placed};
-ghost use Rattle.nxt_layout.specs.Layouts.{IsLayout, IsFound, table_fault, leaf_fault, row_fault, pool_fault, leaves_of as leaves_in, ground_in, arrays_in, spells_array as has_array_entry, rows_in_file, size_of_start};
+ghost use Rattle.nxt_layout.specs.Layouts.{IsLayout};
+ghost use Rattle.nxt_layout.specs.Inside.Passes.{IsFound, row_fault, pool_fault, ground_in, arrays_in, spells_array as has_array_entry, rows_in_file, size_of_start};
 
 use crate::dataspace::Dataspace;
-use crate::enclosing::{Placed, inner_mutex, placed_entries};
 use crate::fault::LayoutFault;
-use crate::leaves::{Leaf, fill, lacking_default, leaves_of, misplaced};
-use crate::overlap::overlap;
 use crate::reach::ArrayRows;
 use crate::rows::{
     check_rows, found_arrays, full_bytes, has_table, lists_of, marks_of, strides_of,
 };
-use crate::shapes::outside_shapes;
-use crate::table::{open_variable, unknown_code};
 use nxt_rxe::parts::{CodeSections, Parts};
+use nxt_table::enclosing::NestedEntry;
+use nxt_table::leaves::PlacedLeaf;
+use nxt_table::shapes::outside_shapes;
+use nxt_table::{Table, check_table};
 use nxt_types::NoMemory;
 use nxt_types::pool::{POOL_BYTES, ROW_BYTES, round4};
 use nxt_types::shape::{Shape, TocEntry};
@@ -59,18 +60,23 @@ impl Model for Layout {
 
 /// The layout of a file's variables, with its clumps and its code, or the first broken rule of its table and data at its
 /// least place (Executable File Specification, "Dataspace Table of Contents", "Default Values", "Dope Vectors"). Of parts
-/// that no file spells nothing is said, and where they aren't as long as their header tells the answer is `TypeOpen(0)`.
+/// that no file spells nothing is said, and where they aren't as long as their header tells the answer is the table's
+/// `TypeOpen(0)`.
 pub fn check_layout(alloc: Global, parts: Parts) -> Result<(Layout, CodeSections), LayoutFault>
     ensures found { HasCounts parts → IfOk result (λ found. IsLayout parts found.0) }
     ensures rest { IfOk result (λ found. found.1 ≡ record { clumps = parts.clumps; dependents = parts.dependents; code = parts.code }) }
     ensures refused { HasCounts parts → IfErr result (λ fault. (fault ≡ no_memory) ⊎ IsRefusal (Broken parts) rank fault) }
 {
-    if !has_counts(&parts) {
-        return Err(LayoutFault::TypeOpen(0));
-    }
-    let placed = check_table(alloc, &parts)?;
-    let leaves = check_leaves(alloc, &parts, placed.as_slice())?;
-    let space = dataspace_of(alloc, &parts, leaves.as_slice())?;
+    let Table {
+        placed,
+        leaves,
+        bytes,
+    } = check_table(alloc, &parts)?;
+    let space = Dataspace {
+        bytes,
+        table: parts.header.dope_at,
+        static_size: parts.header.static_size,
+    };
     let arrays = check_arrays(alloc, &parts, &space, leaves.as_slice())?;
     let footprint = check_pool(&parts, &space, &arrays)?;
     let strides = strides_of(alloc, &space, arrays.found.as_slice(), parts.toc.len())?;
@@ -98,15 +104,6 @@ pub fn check_layout(alloc: Global, parts: Parts) -> Result<(Layout, CodeSections
         code,
     };
     Ok((layout, rest))
-}
-
-// Whether the table and the default data are as long as the head tells.
-fn has_counts(parts: &Parts) -> bool
-    ensures few { IsTrue result → (length parts.now.toc < 2 ^ 16) × (parts.now.header.default_size ≤ length parts.now.defaults) }
-    ensures file { HasCounts parts.now → IsTrue result }
-{
-    parts.toc.len() == usize::from(parts.header.toc_count)
-        && parts.defaults.len() >= usize::from(parts.header.default_size)
 }
 
 impl Layout {
@@ -160,92 +157,16 @@ impl Layout {
     }
 }
 
-// The entries of a table of whole variables that stand deep enough and have their mutexes outside.
-fn check_table(alloc: Global, parts: &Parts) -> Result<Vec<Placed>, LayoutFault>
-    requires { length parts.now.toc < 2 ^ 16 }
-    ensures found { IfOk result (λ ps. (ps.items ≡ entries_placed parts.now.toc) × (table_fault parts.now ≡ None)) }
-    ensures refused { IfErr result (IsFound (table_fault parts.now)) }
-    ensures count { IfOk result (λ ps. length ps.items < 2 ^ 16) }
-{
-    let entries = parts.toc.as_slice();
-    if let Some(entry) = unknown_code(entries) {
-        return Err(LayoutFault::TypeCode(entry));
-    }
-    if let Some(entry) = open_variable(entries) {
-        return Err(LayoutFault::TypeOpen(entry));
-    }
-    let placed = placed_entries(alloc, entries)?;
-    if let Some(entry) = inner_mutex(placed.as_slice()) {
-        return Err(LayoutFault::MutexInside(entry));
-    }
-    Ok(placed)
-}
-
-// The leaves of a table, in their places, apart, and with their defaults.
-fn check_leaves(alloc: Global, parts: &Parts, placed: &[Placed]) -> Result<Vec<Leaf>, LayoutFault>
-    requires count { length placed.now < 2 ^ 16 }
-    requires placed { placed.now ≡ entries_placed parts.now.toc }
-    ensures found { IfOk result (λ ls. (ls.items ≡ leaves_in parts.now) × (leaf_fault parts.now ≡ None)) }
-    ensures refused { IfErr result (IsFound (leaf_fault parts.now)) }
-    ensures places { IfOk result (λ ls. All (λ l. l.place < 2 ^ 16) ls.items) }
-{
-    let leaves = leaves_of(alloc, placed)?;
-    if let Some(entry) = misplaced(leaves.as_slice(), parts.header.static_size) {
-        return Err(LayoutFault::Place(entry));
-    }
-    if let Some((entry, other)) = overlap(alloc, leaves.as_slice())? {
-        return Err(LayoutFault::Overlap(entry, other));
-    }
-    if let Some(entry) = lacking_default(leaves.as_slice(), parts.header.default_size) {
-        return Err(LayoutFault::DefaultsShort(entry));
-    }
-    Ok(leaves)
-}
-
-// The bytes of the dataspace at the start: the defaults, the dynamic defaults, and zeros.
-fn dataspace_of(alloc: Global, parts: &Parts, leaves: &[Leaf]) -> Result<Dataspace, NoMemory>
-    requires leaves { leaves.now ≡ leaves_in parts.now }
-    requires right { leaf_fault parts.now ≡ None }
-    requires defaults { parts.now.header.default_size ≤ length parts.now.defaults }
-    ensures { IfOk result (λ space. ground_of space ≡ ground_in parts.now) }
-{
-    let static_size = usize::from(parts.header.static_size);
-    let dyn_size = usize::from(parts.header.dyn_size);
-    let initial = usize::from(parts.header.initial);
-    let mut bytes = vec![in alloc; 0u8; static_size]?;
-    fill(leaves, parts.defaults.as_slice(), bytes.as_mut_slice());
-    bytes.extend_from_slice(dynamic_defaults(parts))?;
-    let end = bytes.len();
-    bytes.resize(end + initial.saturating_sub(static_size + dyn_size), 0)?;
-    Ok(Dataspace {
-        bytes,
-        table: parts.header.dope_at,
-        static_size: parts.header.static_size,
-    })
-}
-
-// The bytes that stand behind the static bytes.
-fn dynamic_defaults(parts: &Parts) -> &[u8]
-    ensures { result.now ≡ dynamic_bytes parts.now }
-{
-    let defaults = parts.defaults.as_slice();
-    let start = usize::from(parts.header.dyn_at).min(defaults.len());
-    let end = (usize::from(parts.header.dyn_at) + usize::from(parts.header.dyn_size)).min(
-        defaults.len(),
-    );
-    &defaults[start..end]
-}
-
 // The shapes of a table's variables, by the entries' strides.
 fn shapes_of(
     alloc: Global,
     parts: &Parts,
-    placed: &[Placed],
+    placed: &[NestedEntry],
     strides: &[u32],
 ) -> Result<Vec<Option<Shape>>, NoMemory>
     requires placed { placed.now ≡ entries_placed parts.now.toc }
     requires strides { length strides.now ≡ length placed.now }
-    requires right { table_fault parts.now ≡ None }
+    requires kept { KeepsTable parts.now }
     ensures outside { IfOk result (λ shapes. trees_of shapes.items ≡ outside_among (variables_of shapes.items)) }
     ensures shapes { IfOk result (λ shapes. (ss : Members) → AreShapes parts.now.toc ss → variables_of shapes.items ≡ all_with_strides (slice_index strides.now) 0 ss) }
 {
@@ -264,7 +185,7 @@ fn check_arrays(
     alloc: Global,
     parts: &Parts,
     space: &Dataspace,
-    leaves: &[Leaf],
+    leaves: &[PlacedLeaf],
 ) -> Result<Arrays, LayoutFault>
     requires leaves { leaves.now ≡ leaves_in parts.now }
     requires places { All (λ l. l.place < 2 ^ 16) leaves.now }

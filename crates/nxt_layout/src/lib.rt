@@ -1,23 +1,17 @@
-//! Checks the dataspace table and the default data of a file against the rules of an accepted file ("LEGO MINDSTORMS NXT
-//! Executable File Specification", "Dataspace Table of Contents", "Default Values").
+//! Checks the rows that a file's arrays name, and the pool that its start needs, against the rules of an accepted file; the
+//! rules of the table are those of `nxt_table` ("LEGO MINDSTORMS NXT Executable File Specification", "Dope Vectors").
 #![tactic(auto)]
 
 mod dataspace;
-mod enclosing;
 pub mod fault;
-mod item;
 mod known;
 pub mod layout;
-mod leaves;
-mod names;
-mod overlap;
+mod named_rows;
 mod places;
 mod reach;
 mod rows;
-mod shapes;
 mod spans;
 mod strides;
-mod table;
 
 pub use fault::LayoutFault;
 pub use layout::{Layout, check_layout};

@@ -2,8 +2,8 @@
 
 ghost use Rattle.std.specs.Prelude.{◌≡◌, ℕ, ◌<◌, ◌≤◌, ◌*◌, ◌+◌, [], fold, flat_map, length, slice_index, All, IfOk, OnOk, true};
 ghost use Rattle.nxt_layout.specs.Rows.{elements_of, is_placed as row_is_placed};
-ghost use Rattle.nxt_layout.specs.RowPasses.{ground_of, keep_twice, times as times_of};
-ghost use Rattle.nxt_layout.specs.Known.{IsWalked, ArePlaced};
+ghost use Rattle.nxt_layout.specs.Inside.RowPasses.{ground_of, keep_twice, times as times_of};
+ghost use Rattle.nxt_layout.specs.Inside.Known.{IsWalked, ArePlaced};
 
 use crate::dataspace::Dataspace;
 use nxt_types::NoMemory;

@@ -2,14 +2,14 @@
 
 ghost use Rattle.std.specs.Prelude.{◌≡◌, ℕ, ◌==◌, ◌<◌, ◌≤◌, ◌^◌, [], map, flat_map, length, slice_index, max, All, IfOk, OnOk, if◌then◌else◌};
 ghost use Rattle.nxt_layout.specs.Rows.{Ground, elements_of};
-ghost use Rattle.nxt_layout.specs.LeafPasses.{leaf_end};
-ghost use Rattle.nxt_layout.specs.RowPasses.{ground_of, is_array_item, array_leaves, extent_in, back_to, is_back, places_in, through_by, through_from, open_by, opened, through, first_beyond as first_of_beyond};
-ghost use Rattle.nxt_layout.specs.Known.{IsOpen, IsKnown, IsFoundIn};
+ghost use Rattle.nxt_table.specs.Inside.LeafPasses.{leaf_end};
+ghost use Rattle.nxt_layout.specs.Inside.RowPasses.{ground_of, is_array_item, array_leaves, extent_in, back_to, is_back, places_in, through_by, through_from, open_by, opened, through, first_beyond as first_of_beyond};
+ghost use Rattle.nxt_layout.specs.Inside.Known.{IsOpen, IsKnown, IsFoundIn};
 
 use crate::dataspace::Dataspace;
-use crate::item::Item;
 use crate::known::{Found, Known, found_in, found_outside};
-use crate::leaves::{Leaf, width};
+use nxt_table::item::Item;
+use nxt_table::leaves::{PlacedLeaf, width};
 use nxt_types::NoMemory;
 use std::alloc::Global;
 use std::collections::{BTreeMap, VecDeque};
@@ -34,7 +34,11 @@ pub struct OpenArray {
 }
 
 /// The bytes of an array's element by the array's entry: the greatest end of its leaves.
-pub fn extents_of(alloc: Global, leaves: &[Leaf], entries: usize) -> Result<Vec<u32>, NoMemory>
+pub fn extents_of(
+    alloc: Global,
+    leaves: &[PlacedLeaf],
+    entries: usize,
+) -> Result<Vec<u32>, NoMemory>
     requires { All (λ l. l.place < 2 ^ 16) leaves.now }
     ensures count { IfOk result (λ extents. length extents.items ≡ entries) }
     ensures extents { IfOk result (λ extents. (a : ℕ) → a < entries → slice_index extents.items a ≡ extent_in leaves.now a) }
@@ -62,7 +66,7 @@ fn widen(extents: &mut [u32], array: u16, end: u32)
 pub fn arrays_of(
     alloc: Global,
     space: &Dataspace,
-    leaves: &[Leaf],
+    leaves: &[PlacedLeaf],
     extents: &[u32],
 ) -> Result<Vec<ArrayRows>, NoMemory>
     requires { All (λ l. l.place < 2 ^ 16) leaves.now }
@@ -94,7 +98,7 @@ pub fn arrays_of(
     Ok(arrays)
 }
 
-fn is_array(leaf: &Leaf) -> bool
+fn is_array(leaf: &PlacedLeaf) -> bool
     ensures { result ≡ is_array_item leaf.now.item }
 {
     matches!(leaf.item, Item::Array)
@@ -126,7 +130,7 @@ fn rows_through(
     space: &Dataspace,
     known: &mut Known,
     stack: &VecDeque<OpenArray>,
-    leaf: &Leaf,
+    leaf: &PlacedLeaf,
     bytes: u32,
 ) -> Result<Found, NoMemory>
     requires place { leaf.now.place < 2 ^ 16 }

@@ -4,16 +4,16 @@ ghost use Rattle.std.specs.Prelude.{◌≡◌, ℕ, ◌==◌, if◌then◌else�
 ghost use Rattle.nxt_model.specs.Reading.{row_count};
 ghost use Rattle.nxt_layout.specs.LayoutRules.{has_table as tells_table};
 ghost use Rattle.nxt_layout.specs.Rows.{is_placed};
-ghost use Rattle.nxt_layout.specs.RowPasses.{ground_of, times, all_rows, list_count, through, through_from, array_leaves, extent_in, first_below, is_full_by, full_bytes as bytes_of_full, IsMarked, ArraysRise, HaveStrides};
-ghost use Rattle.nxt_layout.specs.Layouts.{IsFound, rows_fault};
+ghost use Rattle.nxt_layout.specs.Inside.RowPasses.{ground_of, times, all_rows, list_count, through, through_from, array_leaves, extent_in, first_below, is_full_by, full_bytes as bytes_of_full, IsMarked, ArraysRise, HaveStrides};
+ghost use Rattle.nxt_layout.specs.Inside.Passes.{IsFound, rows_fault};
 
 use crate::dataspace::Dataspace;
 use crate::fault::LayoutFault;
-use crate::leaves::Leaf;
 use crate::reach::{ArrayRows, arrays_of, extents_of, first_beyond};
 use crate::spans::{is_full, overlap_of, spans_of};
 use crate::strides::{misstrided, stride_of};
 use nxt_rxe::parts::Header;
+use nxt_table::leaves::PlacedLeaf;
 use nxt_types::NoMemory;
 use std::alloc::Global;
 
@@ -34,7 +34,7 @@ pub fn has_table(header: &Header, space: &Dataspace) -> bool
 pub fn found_arrays(
     alloc: Global,
     space: &Dataspace,
-    leaves: &[Leaf],
+    leaves: &[PlacedLeaf],
     entries: usize,
 ) -> Result<Vec<ArrayRows>, NoMemory>
     requires places { All (λ l. l.place < 2 ^ 16) leaves.now }

@@ -2,7 +2,7 @@
 
 ghost use Rattle.std.specs.Prelude.{◌≡◌, ◌<◌, ◌≤◌, ◌^◌, true, length, IfOk, None};
 ghost use Rattle.nxt_model.specs.Reading.{row_count};
-ghost use Rattle.nxt_layout.specs.RowPasses.{ground_of, is_full_by, first_span, first_spans, spans_share, spans_of as spans_by, table_span as span_of_table, row_span as span_of_row, follow, SpansRise};
+ghost use Rattle.nxt_layout.specs.Inside.RowPasses.{ground_of, is_full_by, first_span, first_spans, spans_share, spans_of as spans_by, table_span as span_of_table, row_span as span_of_row, follow, SpansRise};
 
 use crate::dataspace::Dataspace;
 use nxt_types::NoMemory;

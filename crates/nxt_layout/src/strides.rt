@@ -1,9 +1,9 @@
 // Which of an array's rows have a stride that holds an element and is that of each lesser row.
 
 ghost use Rattle.std.specs.Prelude.{◌≡◌, not, filter, flat_map, map, find, Some, IfOk};
-ghost use Rattle.nxt_layout.specs.Owners.{least_of};
+ghost use Rattle.nxt_table.specs.Inside.Owners.{least_of};
 ghost use Rattle.nxt_layout.specs.Rows.{has_elements as row_has_elements, stride_or, read_by};
-ghost use Rattle.nxt_layout.specs.RowPasses.{ground_of, least as least_among, lead_of, is_odd, odd_of, is_from, is_even, misstrided_in, stride_in, through};
+ghost use Rattle.nxt_layout.specs.Inside.RowPasses.{ground_of, least as least_among, lead_of, is_odd, odd_of, is_from, is_even, misstrided_in, stride_in, through};
 
 use crate::dataspace::Dataspace;
 use crate::reach::ArrayRows;

@@ -8,12 +8,12 @@ use Rattle.nxt_types.specs.OperandRules.{is_list, element_of}
 use Rattle.nxt_types.specs.Shapes.{Shape, convertible}
 use Rattle.nxt_model.specs.Footprint.{list_bytes}
 use Rattle.nxt_model.specs.Values.{Value, flat, list_of, stored, lists_in}
-use Rattle.nxt_space.specs.Sizes.{size_in, size_of_filled}
+use Rattle.nxt_values.specs.Sizes.{size_in, size_of_filled}
 use Rattle.nxt_space.specs.Variables.{Variables, AreSound, name_of, shape_of, value_of}
-use Rattle.nxt_space.specs.declared.sizing.Size.{Size}
-use Rattle.nxt_operands.proofs.Counting.{sound_part}
+use Rattle.nxt_values.specs.declared.sizing.Size.{Size}
+use Rattle.nxt_operands.proofs.Laws.Sizes.{sound_part}
 use Rattle.nxt_lists.specs.Pieces.{size_of_each}
-use Rattle.nxt_operands.proofs.Stored.{copy_filled}
+use Rattle.nxt_operands.proofs.Laws.Stored.{copy_filled}
 use Rattle.nxt_lists.proofs.ListElements.{IsElement}
 use Rattle.nxt_lists.proofs.ListStored.{AreFor, AreSmall, HasSize, flat_list, element_small, list_size}
 use Rattle.nxt_lists.proofs.Conversions.{element_strides}

@@ -5,10 +5,10 @@ use Rattle.std.proofs.lemmas.List.Sums.{sum_by-cons}
 use Rattle.nxt_types.specs.Shapes.{Shape}
 use Rattle.nxt_model.specs.Footprint.{list_bytes}
 use Rattle.nxt_model.specs.Values.{Value, lists_in}
-use Rattle.nxt_space.specs.Fills.{filled}
-use Rattle.nxt_space.specs.Sizes.{IsCountable, size_in, size_of_filled}
-use Rattle.nxt_space.specs.declared.sizing.Size.{Size}
-use Rattle.nxt_space.proofs.Counting.{CanAdd, both, nothing}
+use Rattle.nxt_values.specs.Fills.{filled}
+use Rattle.nxt_values.specs.Sizes.{IsCountable, size_in, size_of_filled}
+use Rattle.nxt_values.specs.declared.sizing.Size.{Size}
+use Rattle.nxt_values.proofs.Laws.Sizes.{CanAdd, both, nothing}
 use Rattle.nxt_lists.specs.Pieces.{many_filled, size_of_each}
 
 -- what was counted and these values make up the whole

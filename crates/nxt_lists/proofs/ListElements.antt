@@ -12,9 +12,9 @@ use Rattle.nxt_model.specs.Footprint.{list_bytes}
 use Rattle.nxt_types.specs.Pool.{pool_size}
 use Rattle.nxt_model.specs.Means.Arrays.{pieces}
 use Rattle.nxt_model.specs.Means.Effects.{Given}
-use Rattle.nxt_model.specs.Values.{Value, Values, ListOf, no_more, value, items, elements, is_of, lists_among}
+use Rattle.nxt_model.specs.Values.{Value, Values, ListOf, no_more, items, elements, is_of, lists_among, value}
 use Rattle.nxt_space.specs.Variables.{HasStrides}
-use Rattle.nxt_operands.proofs.Counting.{IsSoundPart}
+use Rattle.nxt_operands.proofs.Laws.Sizes.{IsSoundPart}
 use Rattle.nxt_lists.proofs.Conversions.{fits_then, list_from}
 
 -- a part of the variables that is an element for a list of such elements

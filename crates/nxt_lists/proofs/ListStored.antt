@@ -8,15 +8,15 @@ use Rattle.std.proofs.lemmas.Nat.{mul-le}
 use Rattle.nxt_types.specs.OperandRules.{is_list, element_of}
 use Rattle.nxt_types.specs.Shapes.{Shape, Array}
 use Rattle.nxt_model.specs.Footprint.{list_bytes}
-use Rattle.nxt_model.specs.Values.{Value, Values, ListOf, value, values, items, list_of, flat, flats, many, stored, lists_in, lists_among}
-use Rattle.nxt_model.proofs.ValueLemmas.{items-values}
-use Rattle.nxt_space.specs.Fills.{filled}
-use Rattle.nxt_space.specs.Sizes.{IsCountable, size_in}
+use Rattle.nxt_model.specs.Values.{Value, Values, ListOf, values, items, list_of, flat, flats, many, stored, lists_in, lists_among, value}
+use Rattle.nxt_model.proofs.Laws.Values.{items-values}
+use Rattle.nxt_values.specs.Fills.{filled}
+use Rattle.nxt_values.specs.Sizes.{IsCountable, size_in}
 use Rattle.nxt_space.specs.Variables.{Variables, AreSound, HasStrides, name_of, shape_of}
-use Rattle.nxt_space.specs.declared.sizing.Size.{Size}
-use Rattle.nxt_space.proofs.FilledLaws.{filled_stored}
-use Rattle.nxt_operands.proofs.Counting.{sound_part, grows}
-use Rattle.nxt_operands.proofs.Stored.{IsStorable}
+use Rattle.nxt_values.specs.declared.sizing.Size.{Size}
+use Rattle.nxt_values.proofs.Laws.Filled.{filled_stored}
+use Rattle.nxt_operands.proofs.Laws.Sizes.{sound_part, grows}
+use Rattle.nxt_operands.proofs.Laws.Stored.{IsStorable}
 use Rattle.nxt_lists.specs.Pieces.{size_of_each}
 use Rattle.nxt_operands.specs.Operands.{with_list}
 use Rattle.nxt_lists.proofs.ListElements.{IsElement}

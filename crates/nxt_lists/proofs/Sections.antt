@@ -8,7 +8,7 @@ use Rattle.nxt_model.specs.Means.Arrays.{overwritten, pieces}
 use Rattle.nxt_model.specs.Values.{elements}
 use Rattle.nxt_space.specs.Variables.{Variables, AreSound, name_of, shape_of, value_of}
 use Rattle.nxt_operands.specs.Operands.{given}
-use Rattle.nxt_operands.proofs.Counting.{sound_part}
+use Rattle.nxt_operands.proofs.Laws.Sizes.{sound_part}
 use Rattle.nxt_lists.proofs.Between.{length-overwritten}
 use Rattle.nxt_lists.proofs.ListElements.{IsElement, list_elements, pieces_elements, elements_fit, list_few}
 use Rattle.nxt_lists.proofs.ListStored.{AreFor}

@@ -11,12 +11,12 @@ use Rattle.nxt_model.specs.Footprint.{list_bytes}
 use Rattle.nxt_types.specs.Pool.{pool_size}
 use Rattle.nxt_model.specs.Means.Arrays.{pieces}
 use Rattle.nxt_model.specs.Values.{Value, flat, list_of, stored, lists_in}
-use Rattle.nxt_space.specs.Sizes.{IsCountable}
+use Rattle.nxt_values.specs.Sizes.{IsCountable}
 use Rattle.nxt_space.specs.Variables.{Variables, AreSound, name_of, shape_of, value_of}
-use Rattle.nxt_space.specs.declared.sizing.Size.{Size}
-use Rattle.nxt_space.proofs.Counting.{CanAdd, both}
+use Rattle.nxt_values.specs.declared.sizing.Size.{Size}
+use Rattle.nxt_values.proofs.Laws.Sizes.{CanAdd, both}
 use Rattle.nxt_operands.specs.Operands.{given}
-use Rattle.nxt_operands.proofs.Counting.{sound_part}
+use Rattle.nxt_operands.proofs.Laws.Sizes.{sound_part}
 use Rattle.nxt_lists.specs.Pieces.{pieces_of, many_filled, size_of_each}
 use Rattle.nxt_lists.proofs.ListElements.{IsElement, pieces_elements, pieces_few}
 use Rattle.nxt_lists.proofs.ListStored.{AreFor, AreSmall, elements_filled, flat_list, each_small}

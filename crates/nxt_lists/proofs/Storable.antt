@@ -8,12 +8,12 @@ use Rattle.nxt_types.specs.OperandRules.{is_list, element_of}
 use Rattle.nxt_types.specs.Shapes.{Shape, Number, Array, Cluster, Members, no_members, member, convertible, convertible_members}
 use Rattle.nxt_model.specs.Footprint.{list_bytes, member_bytes}
 use Rattle.nxt_model.specs.Means.Effects.{element}
-use Rattle.nxt_model.specs.Values.{Value, Values, Num, ListOf, GroupOf, no_more, value, items, elements, flat, stored, stored_members, zero_of, zeros_of, is_of, are_of, lists_in, lists_among}
-use Rattle.nxt_space.specs.Fills.{filled, all_filled}
-use Rattle.nxt_space.specs.Sizes.{IsCountable, size_in}
+use Rattle.nxt_model.specs.Values.{Value, Values, Num, ListOf, GroupOf, no_more, items, elements, flat, stored, stored_members, zero_of, zeros_of, is_of, are_of, lists_in, lists_among, value}
+use Rattle.nxt_values.specs.Fills.{filled, all_filled}
+use Rattle.nxt_values.specs.Sizes.{IsCountable, size_in}
 use Rattle.nxt_space.specs.Variables.{Variables, AreSound, name_of, shape_of, value_of}
-use Rattle.nxt_operands.proofs.Counting.{IsSoundPart, sound_part}
-use Rattle.nxt_operands.proofs.Stored.{IsStorable, part_storable}
+use Rattle.nxt_operands.proofs.Laws.Sizes.{IsSoundPart, sound_part}
+use Rattle.nxt_operands.proofs.Laws.Stored.{IsStorable, part_storable}
 use Rattle.nxt_lists.proofs.ListElements.{part_elements}
 
 -- ---- the zero value

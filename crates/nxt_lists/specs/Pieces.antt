@@ -4,9 +4,9 @@ use Rattle.nxt_types.specs.Shapes.{Shape}
 use Rattle.nxt_model.specs.Means.Arrays.{pieces}
 use Rattle.nxt_model.specs.Values.{Value, items, many, lists_in}
 use Rattle.nxt_model.specs.Footprint.{list_bytes}
-use Rattle.nxt_space.specs.Fills.{filled}
+use Rattle.nxt_values.specs.Fills.{filled}
 use Rattle.nxt_space.specs.Variables.{Variables, shape_of}
-use Rattle.nxt_space.specs.declared.sizing.Size.{Size}
+use Rattle.nxt_values.specs.declared.sizing.Size.{Size}
 use Rattle.nxt_operands.specs.Operands.{given}
 
 -- the elements that variables give for a list, one after another

@@ -6,7 +6,7 @@ ghost use Rattle.nxt_types.specs.Shapes.{tree, convertible, is_number};
 ghost use Rattle.nxt_model.specs.Devices.{Devices};
 ghost use Rattle.nxt_model.specs.Means.Arrays.{build as build_means, initialize as initialize_means};
 ghost use Rattle.nxt_model.specs.Values.{flat as flat_form, list_of, stored};
-ghost use Rattle.nxt_space.specs.Sizes.{IsCountable};
+ghost use Rattle.nxt_values.specs.Sizes.{IsCountable};
 ghost use Rattle.nxt_space.specs.Variables.{AreSound, name_of, shape_of};
 ghost use Rattle.nxt_space.specs.Outcomes.{Does};
 ghost use Rattle.nxt_operands.specs.Operands.{Done, given, place_of, values_stored};
@@ -15,11 +15,11 @@ ghost use Rattle.nxt_lists.specs.Pieces.{pieces_of, many_filled, size_of_each};
 use crate::gathering::push_pieces;
 use nxt_operands::reading::flat_of;
 use nxt_operands::storing::{check_room, store};
-use nxt_space::sizing::NONE;
 use nxt_space::{Flat, OpFault, Size, Space, spelled_size};
 use nxt_types::NoMemory;
 use nxt_types::numbers::wrap;
 use nxt_types::shape::Shape;
+use nxt_values::sizing::NONE;
 use std::alloc::Global;
 
 /// Stores the list of its sources, one after another: a value that is an element for it, or else a list's elements.

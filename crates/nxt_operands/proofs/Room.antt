@@ -4,12 +4,12 @@ use Rattle.std.specs.Prelude.{IfErr, IsErrAnd}
 use Rattle.nxt_types.specs.Pool.{round4, pool_size}
 use Rattle.nxt_model.specs.Values.{Value}
 use Rattle.nxt_space.specs.Outcomes.{Does}
-use Rattle.nxt_space.specs.Sizes.{size_in}
+use Rattle.nxt_values.specs.Sizes.{size_in}
 use Rattle.nxt_space.specs.Variables.{Variables, AreSound, name_of, shape_of, with_value, with_values, footprint_of, footprint_with}
 use Rattle.nxt_space.specs.declared.fault.OpFault.{OpFault}
 use Rattle.nxt_space.specs.declared.fault.OpFault.TheVariants.{PoolPassed}
-use Rattle.nxt_space.specs.declared.sizing.Size.{Size}
-use Rattle.nxt_space.proofs.VariableLaws.{footprint_told}
+use Rattle.nxt_values.specs.declared.sizing.Size.{Size}
+use Rattle.nxt_space.proofs.Laws.Variables.{footprint_told}
 use Rattle.nxt_operands.specs.Operands.{Done, stride_of, with_list}
 
 -- the bytes that the variables take with a value of a size

@@ -3,9 +3,9 @@
 ghost use Rattle.std.specs.Prelude.{◌≡◌, ◌≤◌, OnOk, IfErr, Err, IsSome};
 ghost use Rattle.nxt_types.specs.Pool.{pool_size};
 ghost use Rattle.nxt_model.specs.Values.{Value};
-ghost use Rattle.nxt_space.specs.Fills.{filled};
+ghost use Rattle.nxt_values.specs.Fills.{filled};
 ghost use Rattle.nxt_space.specs.Outcomes.{Does};
-ghost use Rattle.nxt_space.specs.Sizes.{IsCountable, size_in, size_of_filled};
+ghost use Rattle.nxt_values.specs.Sizes.{IsCountable, size_in, size_of_filled};
 ghost use Rattle.nxt_space.specs.Variables.{AreSound, name_of, shape_of, with_value, with_values, footprint_of};
 ghost use Rattle.nxt_operands.specs.Operands.{Done, with_list};
 

@@ -15,7 +15,7 @@ use Rattle.nxt_model.specs.Means.Numbers.{deciding, deciding_among, either_signe
 use Rattle.nxt_model.specs.Values.{Value, number, elements}
 use Rattle.nxt_operands.specs.Numbers.{numbers_in}
 use Rattle.nxt_ops.specs.Ops.{deciding_numbers}
-use Rattle.nxt_operands.proofs.NumberLists.{numbers_shape, alike_numbers}
+use Rattle.nxt_operands.proofs.Laws.NumberLists.{numbers_shape, alike_numbers}
 
 -- two numbers are taken as signed or as unsigned
 pub numbers_decide : (s t : Shape) (x y : Value) → is_number s ≡ true → deciding s t x y ≡ (taken (either_signed s t) (number x), taken (either_signed s t) (number y))

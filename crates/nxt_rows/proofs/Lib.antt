@@ -1,3 +1,1 @@
-pub mod Chains
-pub mod FreeRows
-pub mod Writes
+pub mod Laws

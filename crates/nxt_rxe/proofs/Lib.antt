@@ -1,10 +1,4 @@
-pub mod Images
-mod FileRows
-pub mod FileLaw
-pub mod FirstFault
-pub mod FileSound
-pub mod RoundTrip
-pub mod Steps
-pub mod Within
-pub mod Found
-pub mod Decided
+pub mod Laws
+mod Rules
+mod Files
+mod Examples

@@ -1,3 +1,3 @@
 pub mod Files
 pub mod FileRules
-pub mod Reading
+pub mod Inside

@@ -4,7 +4,7 @@ ghost use Rattle.std.specs.Prelude.{◌≡◌, ◌%◌, length, IfOk, IfErr, Mat
 ghost use Rattle.nxt_types.specs.Refusals.{IsAccepted, IsRefusal};
 ghost use Rattle.nxt_rxe.specs.Files.{IsFile, HasCounts, HasDynamic, file_of};
 ghost use Rattle.nxt_rxe.specs.FileRules.{Broken, rank};
-ghost use Rattle.nxt_rxe.specs.Reading.{ArePartsOf, bytes_of};
+ghost use Rattle.nxt_rxe.specs.Inside.Reading.{ArePartsOf, bytes_of};
 
 use crate::fault::RxeFault;
 use crate::head::{append_head, check_head, read_header};

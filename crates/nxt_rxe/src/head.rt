@@ -6,7 +6,7 @@ ghost use Rattle.nxt_types.specs.Refusals.{IsRefusal};
 ghost use Rattle.nxt_rxe.specs.declared.fault.RxeFault.TheVariants as faults;
 ghost use Rattle.nxt_rxe.specs.Files.{head_bytes, numbers};
 ghost use Rattle.nxt_rxe.specs.FileRules.{Broken, rank};
-ghost use Rattle.nxt_rxe.specs.Reading.{HasHead, IsHeader};
+ghost use Rattle.nxt_rxe.specs.Inside.Reading.{HasHead, IsHeader};
 
 use crate::fault::RxeFault;
 use crate::parts::Header;

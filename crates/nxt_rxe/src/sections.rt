@@ -2,7 +2,7 @@
 
 ghost use Rattle.std.specs.Prelude.{◌≡◌, ◌+◌, ◌*◌, ◌^◌, ◌<◌, ◌≤◌, List, ℕ, length, slice_range, IfOk, IfErr, OnOk};
 ghost use Rattle.nxt_rxe.specs.FileRules.{dynamic_passes as dynamic_in, dependents_told as told_in, next_even as even_from};
-ghost use Rattle.nxt_rxe.specs.Reading.{IsHeader, AreSections, IsFirstSection, bytes_of};
+ghost use Rattle.nxt_rxe.specs.Inside.Reading.{IsHeader, AreSections, IsFirstSection, bytes_of};
 
 use crate::fault::RxeFault;
 use crate::head::HEAD_BYTES;

@@ -1,45 +1,4 @@
-mod HeldRows
-mod SpotsRows
-pub mod Accepted
-pub mod Begins
-pub mod Begun
-pub mod ByteLists
-pub mod Counting
-pub mod EachPairs
-pub mod Emptied
-pub mod FileReads
-pub mod FilledLaws
-pub mod Filling
-pub mod FillingSteps
-pub mod Frames
-pub mod Freeing
-pub mod Gathering
-pub mod GroupTree
-pub mod Growing
-pub mod HeldOf
-pub mod HeldSize
-pub mod Keeping
-pub mod LeafSpots
-pub mod Lengths
-pub mod MembersFreed
-pub mod NamedParts
-pub mod Needs
-pub mod Opening
-pub mod PartBounds
-pub mod PartPlaces
-pub mod PartSizes
-pub mod PoolApart
-pub mod PoolHeld
-pub mod PoolReads
-pub mod Putting
-pub mod Replaced
-pub mod Replacing
-pub mod SetSound
-pub mod SpentRows
-pub mod Standing
-pub mod StartFilled
-pub mod Stored
-pub mod StoredHeld
-pub mod VariableLaws
-pub mod Walked
-pub mod Without
+mod Parts
+mod Start
+mod Pool
+pub mod Laws

@@ -1,10 +1,3 @@
-pub mod Fills
-pub mod Held
-pub mod Homes
-pub mod Kept
 pub mod Outcomes
-pub mod Sizes
-pub mod Spots
-pub mod Starts
 pub mod Variables
-pub mod Writes
+pub mod Inside

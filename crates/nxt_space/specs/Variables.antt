@@ -1,17 +1,18 @@
 -- The variables of a program, as the calls of `Space` see them.
-use Rattle.std.specs.Prelude.{◌≡◌, ◌≤◌, ◌<◌, ℕ, ◌+◌, true, ◌-◌, ◌*◌, ◌^◌, max, List, [], ◌∷◌, map, length, ℤ, pos, nat_abs, slice_index_or, Option, Some, None, IsSome, Ok, Err}
+use Rattle.std.specs.Prelude.{◌≡◌, ◌≤◌, ◌<◌, ℕ, ◌+◌, true, ◌-◌, ◌*◌, ◌^◌, max, List, map, pos, Option, Some, None, IsSome, Ok, Err}
 use Rattle.std.specs.declared.result.Result.{Result}
 use Rattle.nxt_types.specs.Arithmetic.{extend}
 use Rattle.nxt_types.specs.declared.kind.Kind.TheVariants.{Ubyte}
 use Rattle.nxt_types.specs.Shapes.{Shape, Void, Number, Array, Cluster, Mutex, Members, no_members, member}
 use Rattle.nxt_types.specs.Names.{Name, name_among, sizes}
 use Rattle.nxt_types.specs.declared.shape.TocEntry.{TocEntry}
-use Rattle.nxt_model.specs.Values.{Value, Num, list_of, elements, part, with_part, is_of, lists_in}
+use Rattle.nxt_model.specs.Values.{Value, Num, list_of, part, with_part, is_of, lists_in}
 use Rattle.nxt_model.specs.Reading.{HeldList, ReadsAs}
 use Rattle.nxt_model.specs.Footprint.{footprint, rows_for, list_bytes}
 use Rattle.nxt_types.specs.Pool.{round4, pool_size}
 use Rattle.nxt_heap.specs.declared.passed.PoolPassed.{PoolPassed}
 use Rattle.nxt_layout.specs.Layouts.{FileLayout}
+use Rattle.nxt_values.specs.Parts.{positions, AreWithin}
 use Rattle.nxt_space.specs.declared.path.Path.{Path}
 
 -- a table with its variables' shapes, the static bytes, the values and the rows at the start, the values now, and the rows
@@ -54,17 +55,6 @@ abbrev pub with_value : Variables → ℕ → Value → Value
 with_value s i v = with_by (name_of s i) v s.values
 
 -- ---- parts of lists
-
--- the positions in lists that numbers tell
-abbrev pub positions : List ℤ → List ℕ
-positions steps = map nat_abs steps
-
--- each position is one of its list's
-abbrev pub AreWithin : Shape → Value → List ℕ → Type 0
-AreWithin s v [] = Unit {0}
-AreWithin (Array stride s) v (k ∷ ks) =
-    (k < length (elements v)) × AreWithin s (slice_index_or (elements v) k (Num (pos 0))) ks
-AreWithin _ v (k ∷ ks) = ⊥
 
 -- the part that a path leads to
 abbrev pub part_of : Variables → Path → Value

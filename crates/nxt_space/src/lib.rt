@@ -2,17 +2,14 @@
 #![tactic(auto)]
 
 pub mod fault;
-mod holding;
 pub mod path;
-mod reading;
-pub mod sizing;
 pub mod space;
 mod starting;
-mod writing;
+mod variables;
 
 pub use fault::OpFault;
-pub use holding::Flat;
 pub use nxt_heap::PoolPassed;
+pub use nxt_values::sizing::{Size, spelled_size};
 pub use path::Path;
-pub use sizing::{Size, spelled_size};
 pub use space::Space;
+pub use variables::Flat;

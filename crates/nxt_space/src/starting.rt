@@ -8,9 +8,8 @@ ghost use Rattle.nxt_types.specs.Names.{size, sizes};
 ghost use Rattle.nxt_model.specs.Values.{Value, elements, values, flat, flats};
 ghost use Rattle.nxt_model.specs.Means.Text.{number_in};
 ghost use Rattle.nxt_model.specs.Reading.{HeldList, Reads, MembersRead, ReadsAs, leaf_place, dope_row, u16_in};
-ghost use Rattle.nxt_space.specs.Starts.{memory_of};
+ghost use Rattle.nxt_space.specs.Inside.Starts.{memory_of};
 
-use crate::reading::{desc_at, size_of};
 use nxt_layout::Layout;
 use nxt_types::NoMemory;
 use nxt_types::kind::Kind;
@@ -18,6 +17,7 @@ use nxt_types::lists::Nums;
 use nxt_types::numbers::extend;
 use nxt_types::pool::ROW_BYTES;
 use nxt_types::shape::Shape;
+use nxt_values::reading::{desc_at, size_of};
 use std::alloc::Global;
 
 // A byte of the dataspace; one past its end counts as 0.
@@ -74,28 +74,28 @@ fn leaf_at(layout: &Layout, entry: u16, base: u32) -> u32
 
 // Where a row's elements begin, how many bytes they are apart, and how many there are.
 #[derive(Clone, Copy)]
-struct Row {
+struct DopeRow {
     place: u16,
     stride: u16,
     count: u16,
 }
 
 // The row of that number; row 0 is an empty list.
-fn row_of(layout: &Layout, number: u16) -> Row
+fn row_of(layout: &Layout, number: u16) -> DopeRow
     ensures none { number ≡ 0 → result.count ≡ 0 }
     ensures place { 0 < number → result.place ≡ (dope_row (memory_of layout.now) number).place }
     ensures stride { 0 < number → result.stride ≡ (dope_row (memory_of layout.now) number).stride }
     ensures count { 0 < number → result.count ≡ (dope_row (memory_of layout.now) number).count }
 {
     if number == 0 {
-        return Row {
+        return DopeRow {
             place: 0,
             stride: 0,
             count: 0,
         };
     }
     let at = u32::from(layout.dope_at()) + ROW_BYTES as u32 * u32::from(number);
-    Row {
+    DopeRow {
         place: word_at(layout, at),
         stride: word_at(layout, at + 2),
         count: word_at(layout, at + 4),

@@ -8,9 +8,9 @@ use Rattle.nxt_model.specs.Means.Effects.{effect, store}
 use Rattle.nxt_model.specs.Values.{Value, Num, number, stored}
 use Rattle.nxt_space.specs.Outcomes.{Does}
 use Rattle.nxt_space.specs.Variables.{Variables, AreSound, shape_of, with_value}
-use Rattle.nxt_space.proofs.SetSound.{set_sound}
+use Rattle.nxt_space.proofs.Laws.NumberSet.{set_sound}
 use Rattle.nxt_operands.specs.Operands.{Done, given, given_or_left, place_of, place_or_none, values_stored}
-use Rattle.nxt_operands.proofs.Stored.{number_set}
+use Rattle.nxt_operands.proofs.Laws.Stored.{number_set}
 use Rattle.nxt_texts.specs.Numerals.{with_number}
 use Rattle.nxt_texts.specs.Packing.{told_in}
 use Rattle.nxt_texts.proofs.Telling.{set_beside, value_and_number}

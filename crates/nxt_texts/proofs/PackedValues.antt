@@ -13,11 +13,12 @@ use Rattle.nxt_types.specs.Names.{size, sizes}
 use Rattle.nxt_types.specs.Shapes.{Shape, Void, Number, Array, Cluster, Mutex, Members, no_members, member, has_list, some_list}
 use Rattle.nxt_model.specs.Footprint.{list_bytes, member_bytes}
 use Rattle.nxt_model.specs.Means.Text.{packed, packed_members, packed_size, packed_sizes, unpacked, unpacked_members}
-use Rattle.nxt_model.specs.Values.{Value, Values, Num, GroupOf, no_more, value, items, elements, number, flat, flats, is_of, are_of, lists_in, lists_among, many}
-use Rattle.nxt_space.specs.Fills.{first_of, filled, all_filled}
+use Rattle.nxt_model.specs.Values.{Value, Values, Num, GroupOf, no_more, items, elements, number, flat, flats, is_of, are_of, lists_in, lists_among, many, value}
+use Rattle.nxt_values.specs.Fills.{first_of, filled, all_filled}
 use Rattle.nxt_space.specs.Variables.{Variables, AreSound, name_of, shape_of, value_of}
-use Rattle.nxt_space.proofs.HeldOf.{cut-extend, number_of_kind}
-use Rattle.nxt_operands.proofs.Counting.{sound_part, few_entries}
+use Rattle.nxt_types.proofs.Laws.Kinds.{cut-extend}
+use Rattle.nxt_model.proofs.Laws.Numbers.{number_of_kind}
+use Rattle.nxt_operands.proofs.Laws.Sizes.{sound_part, few_entries}
 use Rattle.nxt_texts.specs.Packing.{packed_front, packed_fronts, Unpacks}
 
 -- none of both

@@ -12,20 +12,20 @@ use Rattle.nxt_model.specs.Means.Strings.{unflatten}
 use Rattle.nxt_model.specs.Means.Text.{packed_size, unpacked}
 use Rattle.nxt_model.specs.Values.{Value, Num, flat, stored, is_of, part, lists_in}
 use Rattle.nxt_model.specs.Variables.{Absent, put, put_all}
-use Rattle.nxt_space.specs.Fills.{filled}
+use Rattle.nxt_values.specs.Fills.{filled}
 use Rattle.nxt_space.specs.Variables.{Variables, AreSound, name_of, shape_by, shape_of, value_of, with_by, with_value, with_values, footprint_of}
 use Rattle.nxt_space.specs.Outcomes.{Does}
 use Rattle.nxt_space.specs.declared.fault.OpFault.{OpFault}
 use Rattle.nxt_space.specs.declared.fault.OpFault.TheVariants.{PoolPassed, NoMemory}
-use Rattle.nxt_space.proofs.PartSizes.{lists_with_part, bytes_with_part, part_of_shape, with_part_of_shape}
+use Rattle.nxt_space.proofs.Laws.PartSizes.{lists_with_part, bytes_with_part, part_of_shape, with_part_of_shape}
 use Rattle.nxt_operands.specs.Operands.{Done, given, given_or_left, place_of, place_or_none, values_stored}
-use Rattle.nxt_operands.proofs.Counting.{IsSoundPart, sound_part}
-use Rattle.nxt_operands.proofs.Refused.{passed_on}
-use Rattle.nxt_operands.proofs.Stored.{IsStorable, part_storable}
+use Rattle.nxt_operands.proofs.Laws.Sizes.{IsSoundPart, sound_part}
+use Rattle.nxt_operands.proofs.Laws.Refusals.{passed_on}
+use Rattle.nxt_operands.proofs.Laws.Stored.{IsStorable, part_storable}
 use Rattle.nxt_texts.specs.Packing.{told_in}
 use Rattle.nxt_texts.specs.Numerals.{with_number}
 use Rattle.nxt_texts.specs.Texts.{text_at}
-use Rattle.nxt_operands.proofs.Meant.{one_placed}
+use Rattle.nxt_operands.proofs.Laws.OneStored.{one_placed}
 use Rattle.nxt_texts.proofs.PackedValues.{filled_of_shape, plain_value, unpacked_of_shape}
 
 -- ---- sizes

@@ -17,17 +17,17 @@ use Rattle.nxt_types.specs.declared.kind.Kind.TheVariants.{Ubyte}
 use Rattle.nxt_model.specs.Footprint.{list_bytes}
 use Rattle.nxt_types.specs.Pool.{round4, pool_size}
 use Rattle.nxt_model.specs.Means.Text.{body}
-use Rattle.nxt_model.specs.Values.{Value, Num, ListOf, GroupOf, value, values, items, elements, number, word_of, list_of, byte_list, bytes_of, stored, is_of, lists_in, lists_among, many}
-use Rattle.nxt_model.proofs.ValueLemmas.{items-values}
-use Rattle.nxt_space.specs.Fills.{filled}
-use Rattle.nxt_space.specs.Sizes.{IsCountable, size_in}
+use Rattle.nxt_model.specs.Values.{Value, Num, ListOf, GroupOf, values, items, elements, number, word_of, list_of, byte_list, bytes_of, stored, is_of, lists_in, lists_among, many, value}
+use Rattle.nxt_model.proofs.Laws.Values.{items-values}
+use Rattle.nxt_values.specs.Fills.{filled}
+use Rattle.nxt_values.specs.Sizes.{IsCountable, size_in}
 use Rattle.nxt_space.specs.Variables.{Variables, AreSound, name_of, shape_of, value_of}
-use Rattle.nxt_space.specs.declared.sizing.Size.{Size}
-use Rattle.nxt_space.proofs.Counting.{nothing}
+use Rattle.nxt_values.specs.declared.sizing.Size.{Size}
+use Rattle.nxt_values.proofs.Laws.Sizes.{nothing}
 use Rattle.nxt_operands.specs.Numbers.{AreNumbers, numbers_in}
-use Rattle.nxt_operands.proofs.Counting.{IsSoundPart, sound_part}
-use Rattle.nxt_operands.proofs.NumberLists.{variable_numbers}
-use Rattle.nxt_operands.proofs.Stored.{IsStorable}
+use Rattle.nxt_operands.proofs.Laws.Sizes.{IsSoundPart, sound_part}
+use Rattle.nxt_operands.proofs.Laws.NumberLists.{variable_numbers}
+use Rattle.nxt_operands.proofs.Laws.Stored.{IsStorable}
 use Rattle.nxt_operands.specs.Operands.{stride_of, with_list}
 use Rattle.nxt_texts.specs.Texts.{IsByte, flat_bytes, text_at}
 

@@ -4,7 +4,7 @@ use Rattle.std.proofs.Common.{Bor}
 use Rattle.nxt_types.specs.Shapes.{Shape, Void, Number, Array, Cluster, Mutex, Members, no_members, member}
 use Rattle.nxt_model.specs.Means.Text.{packed, packed_size, packed_sizes, unpacked, unpacked_members}
 use Rattle.nxt_model.specs.Values.{Value, Num, flat, flats}
-use Rattle.nxt_space.specs.Fills.{first_of}
+use Rattle.nxt_values.specs.Fills.{first_of}
 use Rattle.nxt_space.specs.Variables.{Variables}
 use Rattle.nxt_texts.specs.Numerals.{with_number}
 

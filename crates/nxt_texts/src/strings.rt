@@ -12,9 +12,9 @@ ghost use Rattle.nxt_texts.specs.Texts.{bodies_at};
 use crate::text::{body, section, store_bytes, store_text, text_of};
 use nxt_operands::operands::word_or;
 use nxt_operands::storing::check_room;
-use nxt_space::sizing::NONE;
 use nxt_space::{OpFault, Space};
 use nxt_types::{Bytes, NoMemory};
+use nxt_values::sizing::NONE;
 use std::alloc::Global;
 
 /// Stores the bodies of texts, one after another, and a zero.

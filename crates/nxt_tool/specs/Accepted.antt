@@ -14,7 +14,7 @@ use Rattle.nxt_code.specs.declared.code.Code.{Code as AcceptedCode}
 use Rattle.nxt_model.specs.Image.{Image}
 use Rattle.nxt_model.specs.Values.{Value}
 use Rattle.nxt_model.specs.LineText.{line_of}
-use Rattle.nxt_tool.specs.First.{runs}
+use Rattle.nxt_tool.specs.RunsToday.{runs}
 use Rattle.nxt_tool.specs.declared.fault.Refusal.{Refusal}
 use Rattle.nxt_tool.specs.declared.fault.Refusal.TheVariants.{Sections, Layout, Code, Unbuilt}
 use Rattle.nxt_tool.specs.declared.fault.AcceptFault.{AcceptFault}

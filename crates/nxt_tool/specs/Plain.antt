@@ -13,7 +13,7 @@ use Rattle.nxt_model.specs.Values.{lists_in}
 use Rattle.nxt_space.specs.Variables.{Variables}
 use Rattle.nxt_types.specs.OperandRules.{AreFit}
 use Rattle.nxt_code.specs.Decoding.{IsDecoded}
-use Rattle.nxt_tool.specs.First.{are_built}
+use Rattle.nxt_tool.specs.RunsToday.{are_built}
 use Rattle.nxt_tool.specs.declared.program.Program.{Program}
 
 -- the only clump: nothing lowers it, and it begins at the first word

@@ -14,11 +14,10 @@ use nxt_types::kind::Cmp;
 use nxt_types::lists::{Bytes, ClumpRec, ClumpRecs, Words};
 use nxt_types::opcodes::Arity;
 use nxt_types::toc::Toc;
+use nxt_types::words::LEFT_OUT;
 use std::alloc::Global;
 use std::process::Abort;
 use std::test::Fail;
-
-const ABSENT: u16 = 0xFFFF;
 
 /// The variables that the tests name: two numbers at 0 and 1, lists of ubyte at 2 and of slong at 4, a mutex at 6, a cluster
 /// at 7 with a place at 9 and a text at 12, and a void at 15. At 3, 5 and 13 stand elements. The cluster draws a text: it
@@ -75,7 +74,7 @@ type Case<'a> = (&'a [Statement<'a>], &'a [u16], u16, Option<CodeFault>);
 // A setout of two pairs, in seven words, and a finclump.
 const SETOUT: [Statement<'static>; 2] = [
     (Op::Setout, Cmp::Lt, &[0, 2, 1, 0, 0]),
-    (Op::Finclump, Cmp::Lt, &[0, ABSENT]),
+    (Op::Finclump, Cmp::Lt, &[0, LEFT_OUT]),
 ];
 
 static CASES: [Case<'static>; 12] = [
@@ -107,7 +106,7 @@ static CASES: [Case<'static>; 12] = [
     (&SETOUT, &[], 1, Some(CodeFault::ClumpStart(0))),
     (&SETOUT, &[], 10, Some(CodeFault::ClumpStart(0))),
     // The last statement ends the clump.
-    (&[(Op::Stop, Cmp::Lt, &[ABSENT])], &[], 0, None),
+    (&[(Op::Stop, Cmp::Lt, &[LEFT_OUT])], &[], 0, None),
     (
         &[(Op::Stop, Cmp::Lt, &[0])],
         &[],
@@ -189,7 +188,7 @@ static ROWS: [(Op, [u16; 5], [u16; 5]); 45] = [
     (Op::Sub, [4, 4, 0, 0, 0], [7, 7, 7, 0, 0]),
     (Op::Neg, [0, 1, 0, 0, 0], [7, 4, 0, 0, 0]),
     (Op::Mul, [2, 0, 4, 0, 0], [15, 3, 1, 0, 0]),
-    (Op::Div, [0, 1, 1, 0, 0], [0xC000, 16, ABSENT, 0, 0]),
+    (Op::Div, [0, 1, 1, 0, 0], [0xC000, 16, LEFT_OUT, 0, 0]),
     (Op::Mod, [4, 0, 2, 0, 0], [6, 13, 0, 0, 0]),
     (Op::And, [1, 0, 1, 0, 0], [5, 2, 9, 0, 0]),
     (Op::Or, [2, 4, 4, 0, 0], [9, 6, 15, 0, 0]),
@@ -201,39 +200,39 @@ static ROWS: [(Op, [u16; 5], [u16; 5]); 45] = [
     (Op::Replace, [2, 4, 1, 0, 0], [0, 1, 4, 7, 0]),
     (Op::Arrsize, [0, 4, 0, 0, 0], [4, 0, 0, 0, 0]),
     (Op::Arrbuild, [2, 0, 4, 0, 0], [0, 7, 6, 0, 0]),
-    (Op::Arrsubset, [2, 4, ABSENT, 1, 0], [0, 1, 4, 7, 0]),
-    (Op::Arrinit, [2, 0, 1, 0, 0], [0, 7, ABSENT, 0, 0]),
+    (Op::Arrsubset, [2, 4, LEFT_OUT, 1, 0], [0, 1, 4, 7, 0]),
+    (Op::Arrinit, [2, 0, 1, 0, 0], [0, 7, LEFT_OUT, 0, 0]),
     (Op::Mov, [0, 1, 0, 0, 0], [6, 4, 0, 0, 0]),
-    (Op::Set, [0, ABSENT, 0, 0, 0], [4, ABSENT, 0, 0, 0]),
+    (Op::Set, [0, LEFT_OUT, 0, 0, 0], [4, LEFT_OUT, 0, 0, 0]),
     (Op::Flatten, [2, 9, 0, 0, 0], [4, 7, 0, 0, 0]),
-    (Op::Unflatten, [9, ABSENT, 2, 9, 0], [6, 4, 4, 7, 0]),
+    (Op::Unflatten, [9, LEFT_OUT, 2, 9, 0], [6, 4, 4, 7, 0]),
     (Op::Numtostr, [2, 0, 0, 0, 0], [4, 2, 0, 0, 0]),
     (
         Op::Strtonum,
-        [0, ABSENT, 2, ABSENT, 1],
-        [ABSENT, 2, 0, 2, 7],
+        [0, LEFT_OUT, 2, LEFT_OUT, 1],
+        [LEFT_OUT, 2, 0, 2, 7],
     ),
     (Op::Strcat, [2, 12, 2, 0, 0], [4, 4, 0, 0, 0]),
-    (Op::Strsubset, [2, 12, 0, ABSENT, 0], [0, 4, 2, 2, 0]),
+    (Op::Strsubset, [2, 12, 0, LEFT_OUT, 0], [0, 4, 2, 2, 0]),
     (Op::Strtoarr, [2, 12, 0, 0, 0], [4, 4, 0, 0, 0]),
     (Op::Arrtostr, [12, 2, 0, 0, 0], [0, 0, 0, 0, 0]),
     (Op::Jmp, [2, 0, 0, 0, 0], [2, 0, 0, 0, 0]),
     (Op::Brcmp, [4, 0, 1, 0, 0], [4, 7, 4, 0, 0]),
     (Op::Brtst, [3, 0, 0, 0, 0], [3, 4, 0, 0, 0]),
     (Op::Syscall, [13, 7, 0, 0, 0], [18, 9, 0, 0, 0]),
-    (Op::Stop, [ABSENT, 0, 0, 0, 0], [4, 0, 0, 0, 0]),
-    (Op::Finclump, [0, ABSENT, 0, 0, 0], [0, ABSENT, 0, 0, 0]),
+    (Op::Stop, [LEFT_OUT, 0, 0, 0, 0], [4, 0, 0, 0, 0]),
+    (Op::Finclump, [0, LEFT_OUT, 0, 0, 0], [0, LEFT_OUT, 0, 0, 0]),
     (Op::Finclumpimmed, [0, 0, 0, 0, 0], [1, 0, 0, 0, 0]),
     (Op::Acquire, [6, 0, 0, 0, 0], [0, 0, 0, 0, 0]),
-    (Op::Release, [6, 0, 0, 0, 0], [ABSENT, 0, 0, 0, 0]),
+    (Op::Release, [6, 0, 0, 0, 0], [LEFT_OUT, 0, 0, 0, 0]),
     (Op::Subcall, [0, 1, 0, 0, 0], [1, 4, 0, 0, 0]),
-    (Op::Subret, [0, 0, 0, 0, 0], [ABSENT, 0, 0, 0, 0]),
+    (Op::Subret, [0, 0, 0, 0, 0], [LEFT_OUT, 0, 0, 0, 0]),
     (Op::Setin, [0, 1, 5, 0, 0], [4, 4, 6, 0, 0]),
     (Op::Setout, [4, 14, 1, 0, 0], [7, 15, 4, 0, 0]),
-    (Op::Getin, [0, 1, 0, 0, 0], [ABSENT, 4, 6, 0, 0]),
+    (Op::Getin, [0, 1, 0, 0, 0], [LEFT_OUT, 4, 6, 0, 0]),
     (Op::Getout, [0, 1, 14, 0, 0], [4, 4, 15, 0, 0]),
-    (Op::Wait, [ABSENT, 0, 0, 0, 0], [2, 0, 0, 0, 0]),
-    (Op::Gettick, [0, 0, 0, 0, 0], [ABSENT, 0, 0, 0, 0]),
+    (Op::Wait, [LEFT_OUT, 0, 0, 0, 0], [2, 0, 0, 0, 0]),
+    (Op::Gettick, [0, 0, 0, 0, 0], [LEFT_OUT, 0, 0, 0, 0]),
 ];
 
 fn count(op: Op) -> usize
@@ -247,7 +246,7 @@ fn count(op: Op) -> usize
 
 // Why a statement and a stop behind it are refused.
 fn fault_of(alloc: Global, toc: &Toc, op: Op, operands: &[u16]) -> Result<Option<CodeFault>, Fail> {
-    let stop = (Op::Stop, Cmp::Lt, [ABSENT].as_slice());
+    let stop = (Op::Stop, Cmp::Lt, [LEFT_OUT].as_slice());
     let words = words_of(alloc, &[(op, Cmp::Lt, operands), stop])?;
     fault(alloc, toc, 0, &[], words)
 }

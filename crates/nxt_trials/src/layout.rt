@@ -4,6 +4,7 @@ use nxt_images::{
     ARRAY, CLUSTER, EMPTY, Entry, Image, MUTEX, NO_DEFAULT, UBYTE, ULONG, UWORD, VOID, parts_of,
 };
 use nxt_layout::{LayoutFault, check_layout};
+use nxt_table::TableFault;
 use std::alloc::Global;
 use std::test::Fail;
 
@@ -17,38 +18,38 @@ static TYPES: [Case<'static>; 8] = [
         &[(CLUSTER, 0, 2), (UBYTE, 0, 0)],
         1,
         1,
-        Some(LayoutFault::TypeOpen(0)),
+        Some(LayoutFault::Table(TableFault::TypeOpen(0))),
     ),
     (
         &[(UWORD, 0, 0), (UBYTE, 0, 1)],
         2,
         3,
-        Some(LayoutFault::Overlap(0, 1)),
+        Some(LayoutFault::Table(TableFault::Overlap(0, 1))),
     ),
     (
         &[(MUTEX, 0, 0), (10, 0, 4)],
         8,
         8,
-        Some(LayoutFault::TypeCode(1)),
+        Some(LayoutFault::Table(TableFault::TypeCode(1))),
     ),
     (
         &[(VOID, 0, 0), (CLUSTER, 0, 0)],
         1,
         1,
-        Some(LayoutFault::TypeOpen(1)),
+        Some(LayoutFault::Table(TableFault::TypeOpen(1))),
     ),
     (
         &[(CLUSTER, 0, 1), (VOID, 0, 0)],
         1,
         1,
-        Some(LayoutFault::TypeOpen(0)),
+        Some(LayoutFault::Table(TableFault::TypeOpen(0))),
     ),
     (&[(CLUSTER, 0, 1), (UBYTE, 0, 0)], 1, 1, None),
     (
         &[(CLUSTER, 0, 1), (MUTEX, 0, 0)],
         4,
         4,
-        Some(LayoutFault::MutexInside(1)),
+        Some(LayoutFault::Table(TableFault::MutexInside(1))),
     ),
     (
         &[(ARRAY, 0, 0), (UBYTE, 0, 0)],
@@ -78,20 +79,20 @@ static LEAVES: [Case<'static>; 7] = [
         &[(ULONG, 0, 0), (UWORD, 0, 4)],
         5,
         6,
-        Some(LayoutFault::Place(1)),
+        Some(LayoutFault::Table(TableFault::Place(1))),
     ),
     (
         &[(ULONG, 0, 0), (UWORD, 0, 4)],
         6,
         5,
-        Some(LayoutFault::DefaultsShort(1)),
+        Some(LayoutFault::Table(TableFault::DefaultsShort(1))),
     ),
     (&[(ULONG, NO_DEFAULT, 0), (UWORD, 0, 4)], 6, 2, None),
     (
         &[(UBYTE, 0, 4), (ULONG, 0, 0), (ULONG, 0, 3)],
         8,
         9,
-        Some(LayoutFault::Overlap(0, 2)),
+        Some(LayoutFault::Table(TableFault::Overlap(0, 2))),
     ),
     (&[], 32756, 0, None),
     (&[], 32757, 0, Some(LayoutFault::PoolPassed(32772))),
@@ -123,7 +124,10 @@ fn eight_clusters_around_a_number(rt: HostRuntime) -> Result<(), Fail> {
     let eight = (&NINE[1..], 1, 1, None);
     assert_eq!(rt; fault_of(rt.alloc(), &eight)?, None);
     let nine = (NINE, 1, 1, None);
-    assert_eq!(rt; fault_of(rt.alloc(), &nine)?, Some(LayoutFault::Depth(9)));
+    assert_eq!(rt;
+        fault_of(rt.alloc(), &nine)?,
+        Some(LayoutFault::Table(TableFault::Depth(9)))
+    );
     Ok(())
 }
 

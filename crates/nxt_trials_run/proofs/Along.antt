@@ -5,7 +5,8 @@ use Rattle.std.proofs.lemmas.List.{map-append, take_more, take_all}
 use Rattle.nxt_types.specs.Names.{Name}
 use Rattle.nxt_types.specs.Shapes.{Shape, Void, Number, Array, Cluster, Mutex}
 use Rattle.nxt_model.specs.Values.{Value, Num, elements, part}
-use Rattle.nxt_space.specs.Variables.{Variables, AreWithin, HasPart, name_of, part_of, positions, shape_by, shape_of, value_of}
+use Rattle.nxt_space.specs.Variables.{Variables, HasPart, name_of, part_of, shape_by, shape_of, value_of}
+use Rattle.nxt_values.specs.Parts.{AreWithin, positions}
 use Rattle.nxt_space.specs.declared.path.Path.{Path}
 
 -- the shape to which positions in lists lead

@@ -26,6 +26,7 @@ use nxt_types::kind::Cmp;
 use nxt_types::lists::{Bytes, ClumpRec, ClumpRecs, Words};
 use nxt_types::shape::Shape;
 use nxt_types::toc::Toc;
+use nxt_types::words::LEFT_OUT;
 use std::alloc::Global;
 use std::process::Abort;
 use std::test::Fail;
@@ -54,8 +55,6 @@ pub struct Story<'a> {
     pub steps: &'a [Step<'a>],
     pub after: &'a [(u16, &'a [i64])],
 }
-
-const ABSENT: u16 = 0xFFFF;
 
 // How many words a statement jumps back, and ahead.
 fn reach(statement: &Statement) -> (usize, usize) {
@@ -86,7 +85,7 @@ fn program_of(alloc: Global, statement: &Statement) -> Result<(Words, u16), Fail
     append(&mut words, statement)?;
     let length = words.len().saturating_sub(back);
     fill(alloc, &mut words, ahead.saturating_sub(length))?;
-    append(&mut words, &(Op::Finclump, Cmp::Lt, &[ABSENT, ABSENT]))?;
+    append(&mut words, &(Op::Finclump, Cmp::Lt, &[LEFT_OUT, LEFT_OUT]))?;
     Ok((words, at))
 }
 

@@ -11,14 +11,12 @@ use nxt_images::{EMPTY, Image, SBYTE, Statement, UBYTE};
 use nxt_tool::{Status, nxt};
 use nxt_types::instr::Op;
 use nxt_types::kind::Cmp;
+use nxt_types::words::LEFT_OUT;
 use std::alloc::Global;
 use std::test::Fail;
 
-/// Left out, or none.
-const ABSENT: u16 = 0xFFFF;
-
 /// The end of a program.
-const FINISH: Statement<'static> = (Op::Finclump, Cmp::Lt, &[0, ABSENT]);
+const FINISH: Statement<'static> = (Op::Finclump, Cmp::Lt, &[0, LEFT_OUT]);
 
 /// Sets the power of the motor at output A to 75, commits it and ends.
 const MOTOR: Image<'static> = Image {

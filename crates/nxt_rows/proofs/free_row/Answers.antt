@@ -1,6 +1,6 @@
 use Rattle.std.proofs.Common.{rules, ◌≡◌, ◌∷◌, arith, ap, ◌∙◌}
 use Rattle.nxt_rows.specs.Rows.{dope_row, free_rows}
-use Rattle.nxt_rows.proofs.FreeRows.{SameBut, free_rows-freed, IsFreeChain-cons}
+use Rattle.nxt_rows.proofs.Laws.FreeRows.{SameBut, free_rows-freed, IsFreeChain-cons}
 use Rattle.nxt_rows.proofs.free_row.Goals as goal
 
 -- what a free row's two writes do

@@ -1,6 +1,6 @@
 use Rattle.std.proofs.Common.{arith}
-use Rattle.nxt_rows.proofs.FreeRows.{Walks-start, Walks-end, Stepped, Walks-step}
-use Rattle.nxt_rows.proofs.Writes.{row_count-fits}
+use Rattle.nxt_rows.proofs.Laws.FreeRows.{Walks-start, Walks-end, Stepped, Walks-step}
+use Rattle.nxt_rows.proofs.Laws.Writes.{row_count-fits}
 use Rattle.nxt_rows.proofs.spare.Goals as goal
 
 pub loop-row-init : goal.loop-row-init

@@ -1,4 +1,4 @@
-use Rattle.nxt_rows.proofs.FreeRows.{Walks}
+use Rattle.nxt_rows.proofs.Laws.FreeRows.{Walks}
 use Rattle.nxt_rows.specs.Rows.{row_count}
 use Rattle.std.proofs.Common.{◌-◌}
 use Rattle.nxt_rows.proofs.spare.Given as goal

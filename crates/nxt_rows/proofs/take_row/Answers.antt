@@ -1,6 +1,6 @@
 use Rattle.std.proofs.Common.{rules, ◌≡◌, ◌∷◌, arith, ap, ◌∙◌, sym, refl}
 use Rattle.nxt_rows.specs.Rows.{dope_row, link_of, free_rows}
-use Rattle.nxt_rows.proofs.FreeRows.{SameBut, free_rows-none, free_rows-front, free_rows-taken, IsFreeChain-tail}
+use Rattle.nxt_rows.proofs.Laws.FreeRows.{SameBut, free_rows-none, free_rows-front, free_rows-taken, IsFreeChain-tail}
 use Rattle.nxt_rows.proofs.take_row.Goals as goal
 
 pub returns-then-first-eq0-clause-none : goal.returns-then-first-eq0-clause-none

@@ -4,7 +4,7 @@ ghost use Rattle.std.specs.Prelude.{◌≡◌, IsSome, IsTrue, IfOk};
 ghost use Rattle.nxt_types.specs.Shapes.{Array, Members, Number, is_number};
 ghost use Rattle.nxt_types.specs.Names.{name_among};
 ghost use Rattle.nxt_types.specs.declared.kind.Kind.TheVariants.{Ubyte};
-ghost use Rattle.nxt_space.specs.Sizes.{IsCountable, size_of_filled};
+ghost use Rattle.nxt_values.specs.Sizes.{IsCountable, size_of_filled};
 ghost use Rattle.nxt_space.specs.Variables.{HasPart, shape_by};
 
 use super::counting::counted;

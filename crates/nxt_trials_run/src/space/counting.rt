@@ -3,11 +3,11 @@
 ghost use Rattle.std.specs.Prelude.{◌≡◌, ◌+◌, ◌*◌, drop, map, nat_abs, IfSome};
 ghost use Rattle.nxt_types.specs.Shapes.{tree, members};
 ghost use Rattle.nxt_types.specs.Pool.{round4 as rounded};
-ghost use Rattle.nxt_space.specs.Fills.{filled, all_filled, first_of};
-ghost use Rattle.nxt_space.specs.Sizes.{size_of_filled, size_of_all_filled};
+ghost use Rattle.nxt_values.specs.Fills.{filled, all_filled, first_of};
+ghost use Rattle.nxt_values.specs.Sizes.{size_of_filled, size_of_all_filled};
 
-use nxt_space::sizing::{NONE, Size};
 use nxt_types::shape::Shape;
+use nxt_values::sizing::{NONE, Size};
 
 // The first of the numbers as a count; a missing one is 0.
 fn first_count(from: &[i64]) -> u64

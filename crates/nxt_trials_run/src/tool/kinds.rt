@@ -1,6 +1,6 @@
 // Each statement at its edges. A motor line shows a result as the tacho limit, a word of 32 bits.
 
-use super::{ABSENT, FINISH, NONE, WHOLE, command, run_words};
+use super::{FINISH, NONE, WHOLE, command, run_words};
 use nxt_images::{
     EMPTY, Entry, Image, NO_DEFAULT, SBYTE, SLONG, SWORD, Statement, UBYTE, ULONG, UWORD, file_of,
 };
@@ -8,6 +8,7 @@ use nxt_tool::Status;
 use nxt_types::instr::Op;
 use nxt_types::kind::Cmp;
 use nxt_types::lists::Bytes;
+use nxt_types::words::LEFT_OUT;
 use std::alloc::Global;
 use std::test::Fail;
 
@@ -347,7 +348,7 @@ fn stops(rt: HostRuntime) -> Result<(), Fail> {
     let words = run_words(alloc)?;
     let zero: Source = (UBYTE, &[0]);
     let minus_one: Source = (SBYTE, &[0xFF]);
-    for (x, operand) in [(minus_one, X), (zero, ABSENT)] {
+    for (x, operand) in [(minus_one, X), (zero, LEFT_OUT)] {
         let operands = [operand];
         let code = [(Op::Stop, Cmp::Lt, operands.as_slice()), SHOW, FINISH];
         let entries = entries_of(x, zero, UBYTE);

@@ -1,6 +1,6 @@
 // Worked programs on arithmetic, lists and texts. A motor line shows a number, or one byte of a text, as the tacho limit.
 
-use super::{ABSENT, FINISH, NONE, WHOLE, command, run_words};
+use super::{FINISH, NONE, WHOLE, command, run_words};
 use nxt_images::{
     ARRAY, CLUSTER, EMPTY, Image, NO_DEFAULT, SBYTE, SLONG, SWORD, UBYTE, ULONG, file_of,
 };

@@ -1,8 +1,7 @@
 // Worked commands.
 
 use super::{
-    ABSENT, ENDLESS_JUMP, FINISH, Failing, MOTOR, MOTOR_REPORT, NONE, WHOLE, command, run_words,
-    words_of,
+    ENDLESS_JUMP, FINISH, Failing, MOTOR, MOTOR_REPORT, NONE, WHOLE, command, run_words, words_of,
 };
 use nxt_images::{CLUSTER, EMPTY, Image, SBYTE, UBYTE, UWORD, file_of};
 use nxt_tool::Status;

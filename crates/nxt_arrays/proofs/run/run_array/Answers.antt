@@ -12,7 +12,7 @@ use Rattle.nxt_model.specs.Values.{Value}
 use Rattle.nxt_space.specs.Variables.{name_of, shape_of}
 use Rattle.nxt_space.specs.Outcomes.{Does}
 use Rattle.nxt_operands.specs.Operands.{Done, given, place_of, values_stored}
-use Rattle.nxt_operands.proofs.Named.{named_some}
+use Rattle.nxt_operands.proofs.Laws.Named.{named_some}
 use Rattle.nxt_arrays.specs.Arrays.{runs}
 use Rattle.nxt_arrays.proofs.Fitting as fits
 use Rattle.nxt_arrays.proofs.SeveralFitting as several

@@ -4,7 +4,7 @@ use Rattle.std.specs.Prelude.{slice_get, nat_le}
 use Rattle.std.proofs.lemmas.Bool.{cases_lt}
 use Rattle.nxt_types.specs.Refusals.{passes}
 use Rattle.nxt_code.specs.CodeRules.{dependent_lists, names_no_clump}
-use Rattle.nxt_code.proofs.Dependents.{own_dependent, lists_behind, count_behind, no_clump_behind}
+use Rattle.nxt_code.proofs.Rules.Dependents.{own_dependent, lists_behind, count_behind, no_clump_behind}
 use Rattle.nxt_code.proofs.clumps.bad_dependent.Goals as goal
 
 pub returns-in-Some : goal.returns-in-Some

@@ -5,7 +5,7 @@ use Rattle.std.proofs.lemmas.Bool.{le-ltb}
 use Rattle.std.proofs.Math.Facts.{to_z-of_z}
 use Rattle.nxt_types.specs.Statements.{statements}
 use Rattle.nxt_code.specs.CodeRules.{begins_at}
-use Rattle.nxt_code.proofs.Marks.{begun_or_inside, none_inside, begins_pos}
+use Rattle.nxt_code.proofs.Sequence.Marks.{begun_or_inside, none_inside, begins_pos}
 use Rattle.nxt_code.proofs.clumps.is_inside.Goals as goal
 
 pub returns-then-from-len : goal.returns-then-from-len

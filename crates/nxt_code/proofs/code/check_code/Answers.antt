@@ -3,7 +3,7 @@ use Rattle.std.proofs.Common.{subst, rules}
 use Rattle.nxt_types.specs.Refusals.{IsAccepted}
 use Rattle.nxt_code.specs.CodeRules.{program, Broken}
 use Rattle.nxt_code.specs.Decoding.{IsDecoded}
-use Rattle.nxt_code.proofs.FitCode.{fit}
+use Rattle.nxt_code.proofs.Rules.Fit.{fit}
 use Rattle.nxt_code.proofs.code.check_code.Goals as goal
 
 pub returns-in-None-clause-fit : goal.returns-in-None-clause-fit

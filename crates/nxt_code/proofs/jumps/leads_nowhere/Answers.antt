@@ -3,7 +3,7 @@ use Rattle.std.proofs.Common.{◌≡◌, true, not, sym, ap, ◌∙◌, inl, inr
 use Rattle.std.proofs.Math.Facts.{to_z-of_z}
 use Rattle.nxt_types.specs.Statements.{statements, landing}
 use Rattle.nxt_code.specs.CodeRules.{is_jump, begins_at}
-use Rattle.nxt_code.proofs.Marks.{leads_by}
+use Rattle.nxt_code.proofs.Sequence.Marks.{leads_by}
 use Rattle.nxt_code.proofs.jumps.leads_nowhere.Goals as goal
 
 pub returns-in-Jmp : goal.returns-in-Jmp

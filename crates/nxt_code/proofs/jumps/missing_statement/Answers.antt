@@ -1,9 +1,9 @@
 -- A statement lacks where decoding ended before the code's end.
 use Rattle.std.proofs.Common.{◌≡◌, ◌<◌, ◌≤◌, length, subst, arith}
-use Rattle.nxt_code.specs.Places.{Finds}
+use Rattle.nxt_code.specs.Inside.Places.{Finds}
 use Rattle.nxt_code.specs.CodeRules.{lacks_statement}
 use Rattle.std.proofs.Common.{Some}
-use Rattle.nxt_code.proofs.Marks.{lacks_at_end, lacks_elsewhere, lacks_none}
+use Rattle.nxt_code.proofs.Sequence.Marks.{lacks_at_end, lacks_elsewhere, lacks_none}
 use Rattle.nxt_code.proofs.jumps.missing_statement.Goals as goal
 
 pub returns-then-end-words : goal.returns-then-end-words

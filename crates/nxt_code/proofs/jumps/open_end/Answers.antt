@@ -3,7 +3,7 @@ use Rattle.std.proofs.Common.{sym, ◌∙◌}
 use Rattle.nxt_types.specs.Statements.{statements}
 use Rattle.nxt_code.specs.CodeRules.{may_go_on}
 use Rattle.nxt_code.specs.Decoding.{placed_of}
-use Rattle.nxt_code.proofs.Found.{last_mapped, last_found, last_fails}
+use Rattle.nxt_code.proofs.Sequence.FirstAndLast.{last_mapped, last_found, last_fails}
 use Rattle.nxt_code.proofs.jumps.open_end.Goals as goal
 
 pub returns-then-may_go_on : goal.returns-then-may_go_on

@@ -1,7 +1,7 @@
 -- The first jump that leads nowhere.
 use Rattle.std.proofs.Common.{◌<◌, ◌≤◌, length, sym, ◌∙◌, arith}
 use Rattle.nxt_code.specs.CodeRules.{leads_nowhere}
-use Rattle.nxt_code.proofs.Found.{found_at, found_nowhere}
+use Rattle.nxt_code.proofs.Sequence.FirstAndLast.{found_at, found_nowhere}
 use Rattle.nxt_code.proofs.jumps.stray_jump.Goals as goal
 
 pub returns-then-leads_nowhere : goal.returns-then-leads_nowhere

@@ -2,7 +2,7 @@
 use Rattle.std.proofs.Common.{◌≡◌, drop, map}
 use Rattle.nxt_code.specs.CodeRules.{leads_nowhere}
 use Rattle.nxt_code.specs.Decoding.{placed_of}
-use Rattle.nxt_code.proofs.Found.{first_of}
+use Rattle.nxt_code.proofs.Sequence.FirstAndLast.{first_of}
 use Rattle.nxt_code.proofs.jumps.stray_jump.Given as goal
 
 abbrev pub invariant-loop-placed : goal.invariant-loop-placed

@@ -1,7 +1,7 @@
 -- The first statement with a refused operand.
 use Rattle.std.proofs.Common.{◌<◌, ◌≤◌, length, refl, arith}
 use Rattle.nxt_code.specs.CodeRules.{is_refused_operand}
-use Rattle.nxt_code.proofs.Found.{pair_found, none_more, none_at_all}
+use Rattle.nxt_code.proofs.Sequence.FirstAndLast.{pair_found, none_more, none_at_all}
 use Rattle.nxt_code.proofs.operands.bad_operand.Goals as goal
 
 pub loop-placed-init : goal.loop-placed-init

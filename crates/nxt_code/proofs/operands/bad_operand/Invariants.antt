@@ -3,7 +3,7 @@ use Rattle.std.proofs.Common.{◌≡◌, ◌&&◌, ◌==◌, ℕ, false, map, ta
 use Rattle.std.specs.List.{list_any}
 use Rattle.nxt_code.specs.CodeRules.{is_refused_operand}
 use Rattle.nxt_code.specs.Decoding.{placed_of}
-use Rattle.nxt_code.specs.Known.{IsKnown}
+use Rattle.nxt_code.specs.Inside.KnownShapes.{IsKnown}
 use Rattle.nxt_code.proofs.operands.bad_operand.Given as goal
 
 abbrev pub invariant-loop-placed : goal.invariant-loop-placed

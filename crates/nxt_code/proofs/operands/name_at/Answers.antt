@@ -2,7 +2,7 @@
 use Rattle.std.proofs.Common.{◌<◌, ◌≤◌, length, sym, ap, ◌∙◌, arith}
 use Rattle.nxt_types.specs.Statements.{statement_of}
 use Rattle.nxt_types.specs.OperandRules.{shape_of}
-use Rattle.nxt_code.proofs.OperandLaws.{sort_there, sort_past}
+use Rattle.nxt_code.proofs.Arguments.ByPosition.{sort_there, sort_past}
 use Rattle.nxt_code.proofs.operands.name_at.Goals as goal
 
 pub returns-then-k-operand_count : goal.returns-then-k-operand_count

@@ -1,5 +1,5 @@
 -- A name is no number.
-use Rattle.nxt_code.proofs.OperandLaws.{no_number}
+use Rattle.nxt_code.proofs.Arguments.ByPosition.{no_number}
 use Rattle.nxt_code.proofs.operands.number_of.Goals as goal
 
 pub returns-in_default : goal.returns-in_default

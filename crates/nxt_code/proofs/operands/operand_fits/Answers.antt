@@ -6,7 +6,7 @@ use Rattle.nxt_types.specs.Opcodes.{classes_of, row}
 use Rattle.nxt_types.specs.declared.opcodes.Class.TheVariants.{Immediate}
 use Rattle.nxt_types.specs.OperandRules.{is_of_class, asked, allowed, sort_at, shape_of, word_of}
 use Rattle.nxt_code.specs.OperandsSeen.{operands}
-use Rattle.nxt_code.proofs.OperandLaws.{class_test_there, first_fails, last_fails, middle_decides}
+use Rattle.nxt_code.proofs.Arguments.ByPosition.{class_test_there, first_fails, last_fails, middle_decides}
 use Rattle.nxt_code.proofs.operands.operand_fits.Goals as goal
 use Rattle.nxt_code.proofs.operands.operand_fits.Goals.{then-not-is_of_class-via-then-not-is_of_class, then-not-is_of_class-via-else-not-is_of_class+then-not-is_allowed}
 
@@ -35,6 +35,6 @@ returns-clause-fits c =
     let test_class : Bool = is_of_class c.args.clumps (get_or (classes_of (row i.op).operands (length os)) k Immediate) (sort_at os k) in
     let test_beside : Bool = slice_index_or (asked i.op (λ j. shape_of (sort_at os j)) (λ j. word_of (sort_at os j)) os) k true in
     let test_number : Bool = slice_index_or (allowed i.op (λ j. word_of (sort_at os j)) os) k true in
-    IfOk-weaker c.fits_beside.result (λ fits. fits ≡ test_beside) (λ fits. fits ≡ _)
+    IfOk-weaker c.fits_others.result (λ fits. fits ≡ test_beside) (λ fits. fits ≡ _)
     (λ fits e. middle_decides fits test_class test_beside test_number (sym class ∙ c.if-not-is_of_class.false) (sym (c.is_allowed.ensures ss) ∙ c.if-not-is_allowed.false) e)
-    c.fits_beside.ensures.fits
+    c.fits_others.ensures.fits

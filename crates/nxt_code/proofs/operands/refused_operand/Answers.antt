@@ -3,7 +3,7 @@ use Rattle.std.proofs.Common.{◌≡◌, ◌<◌, true, length, sym, ◌∙◌, 
 use Rattle.nxt_types.specs.Statements.{statement_of}
 use Rattle.nxt_types.specs.OperandRules.{operand_fits}
 use Rattle.nxt_code.specs.OperandsSeen.{operands}
-use Rattle.nxt_code.proofs.OperandLaws.{first_refused}
+use Rattle.nxt_code.proofs.Arguments.ByPosition.{first_refused}
 use Rattle.nxt_code.proofs.operands.refused_operand.Goals as goal
 
 pub returns-then-not-branch-clause-found : goal.returns-then-not-branch-clause-found

@@ -1,7 +1,7 @@
 -- The operands before k fit, and what is kept is right.
 use Rattle.std.proofs.Common.{◌≡◌, ◌<◌, ℕ, true}
 use Rattle.nxt_types.specs.OperandRules.{operand_fits}
-use Rattle.nxt_code.specs.Known.{IsKnown}
+use Rattle.nxt_code.specs.Inside.KnownShapes.{IsKnown}
 use Rattle.nxt_code.specs.OperandsSeen.{operands}
 use Rattle.nxt_code.proofs.operands.refused_operand.Given as goal
 

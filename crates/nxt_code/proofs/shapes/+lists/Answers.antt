@@ -1,7 +1,7 @@
 -- A group holds a list where a member does.
 use Rattle.std.proofs.Common.{◌∙◌, ap, sym, map}
 use Rattle.nxt_types.specs.Shapes.{tree, members, has_list, some_list}
-use Rattle.nxt_types.proofs.TreeLemmas.{trees_hidden}
+use Rattle.nxt_types.proofs.Laws.Trees.{trees_hidden}
 use Rattle.nxt_code.proofs.shapes.+lists.Goals as goal
 
 pub holds_list-returns-in-Group : goal.holds_list-returns-in-Group

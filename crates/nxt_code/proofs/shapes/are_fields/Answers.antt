@@ -1,8 +1,8 @@
 -- There are as many members as fields.
-use Rattle.std.proofs.Common.{◌∙◌, sym, map}
+use Rattle.std.proofs.Common.{◌∙◌, map}
 use Rattle.std.proofs.lemmas.List.{length-map}
 use Rattle.nxt_types.specs.Shapes.{tree}
-use Rattle.nxt_code.proofs.ShapeTests.{other_count}
+use Rattle.nxt_code.proofs.Arguments.ShapeTests.{other_count}
 use Rattle.nxt_code.proofs.shapes.are_fields.Goals as goal
 
 pub returns-then-fields-shapes : goal.returns-then-fields-shapes

@@ -2,7 +2,7 @@
 use Rattle.std.proofs.Common.{◌<◌, ◌≤◌, length, map, arith}
 use Rattle.std.proofs.lemmas.List.{length-map}
 use Rattle.nxt_types.specs.Shapes.{tree}
-use Rattle.nxt_code.proofs.ShapeTests.{few_no_place, many_no_place}
+use Rattle.nxt_code.proofs.Arguments.ShapeTests.{few_no_place, many_no_place}
 use Rattle.nxt_code.proofs.shapes.are_two_numbers.Goals as goal
 
 pub returns-in_default : goal.returns-in_default

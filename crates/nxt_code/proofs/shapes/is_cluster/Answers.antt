@@ -4,7 +4,7 @@ use Rattle.nxt_types.specs.Shapes.{tree}
 use Rattle.nxt_types.specs.Calls.{call_of, cluster_fields}
 use Rattle.nxt_types.specs.OperandRules.{is_cluster}
 use Rattle.nxt_code.specs.OperandsSeen.{shape_seen}
-use Rattle.nxt_code.proofs.ShapeTests.{cluster_by}
+use Rattle.nxt_code.proofs.Arguments.ShapeTests.{cluster_by}
 use Rattle.nxt_code.proofs.shapes.is_cluster.Goals as goal
 
 pub returns-in-Some-from_number : goal.returns-in-Some-from_number

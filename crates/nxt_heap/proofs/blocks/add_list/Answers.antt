@@ -2,10 +2,10 @@ use Rattle.std.proofs.Common.{◌≡◌, ◌∙◌, ◌+◌, ◌*◌, sym, ap, a
 use Rattle.nxt_types.specs.Pool.{round4}
 use Rattle.nxt_rows.specs.Rows.{row_count}
 use Rattle.nxt_heap.specs.Lists.{empty_list}
-use Rattle.nxt_heap.specs.Pool.{lists_in}
-use Rattle.nxt_heap.proofs.Freeing.{any_free-full, with_free-full, free-last, set-last}
-use Rattle.nxt_heap.proofs.Places.{row_in_pool, block_ends, blocks_before-zero}
-use Rattle.nxt_heap.proofs.Views.{table-block, length-lists_in}
+use Rattle.nxt_heap.specs.Inside.Pool.{lists_in}
+use Rattle.nxt_heap.proofs.Rows.Free.{any_free-full, with_free-full, free-last, set-last}
+use Rattle.nxt_heap.proofs.Pool.Places.{row_in_pool, block_ends, blocks_before-zero}
+use Rattle.nxt_heap.proofs.Lists.OfPool.{table-block, length-lists_in}
 use Rattle.nxt_heap.proofs.blocks.add_list.Goals as goal
 
 pub get-row-requires : goal.get-row-requires

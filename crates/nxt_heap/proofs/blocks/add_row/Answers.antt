@@ -1,10 +1,10 @@
 use Rattle.std.proofs.Common.{◌≡◌, ◌∙◌, ◌+◌, ◌*◌, sym, ap, arith}
 use Rattle.nxt_types.specs.Pool.{round4}
 use Rattle.nxt_rows.specs.Rows.{dope_row, row_count}
-use Rattle.nxt_heap.specs.Pool.{row_block}
-use Rattle.nxt_heap.proofs.Growing.{Adds, Grown, two_count, two_end, grown_dense, grown_lists, grown_end}
-use Rattle.nxt_heap.proofs.Places.{row_in_pool, table_within, block_ends, blocks_before-zero}
-use Rattle.nxt_heap.proofs.Views.{table-block}
+use Rattle.nxt_heap.specs.Inside.Pool.{row_block}
+use Rattle.nxt_heap.proofs.Rows.Added.{Adds, Grown, two_count, two_end, grown_dense, grown_lists, grown_end}
+use Rattle.nxt_heap.proofs.Pool.Places.{row_in_pool, table_within, block_ends, blocks_before-zero}
+use Rattle.nxt_heap.proofs.Lists.OfPool.{table-block}
 use Rattle.nxt_heap.proofs.blocks.add_row.Goals as goal
 
 pub get-first-requires : goal.get-first-requires

@@ -1,6 +1,6 @@
 use Rattle.std.proofs.Common.{ap, arith}
-use Rattle.nxt_heap.specs.Pool.{row_block}
-use Rattle.nxt_heap.proofs.Places.{blocks_before-zero, blocks_before-next, block_within}
+use Rattle.nxt_heap.specs.Inside.Pool.{row_block}
+use Rattle.nxt_heap.proofs.Pool.Places.{blocks_before-zero, blocks_before-next, block_within}
 use Rattle.nxt_heap.proofs.blocks.block_start.Goals as goal
 
 pub loop-above-init : goal.loop-above-init

@@ -1,9 +1,9 @@
 use Rattle.std.proofs.Common.{◌∙◌, ◌<◌, None, sym, ap, arith, set}
 use Rattle.std.proofs.Math.Nat.{zero-mod}
 use Rattle.nxt_rows.specs.Rows.{dope_row, row_count}
-use Rattle.nxt_heap.specs.Pool.{lists_in}
-use Rattle.nxt_heap.proofs.Swapping.{Swaps, swapped_end, swapped_dense, swapped_lists, dense_table, dense_alive, freed_free}
-use Rattle.nxt_heap.proofs.Views.{list_in-none, set-set}
+use Rattle.nxt_heap.specs.Inside.Pool.{lists_in}
+use Rattle.nxt_heap.proofs.Rows.TakenOrFreed.{Swaps, swapped_end, swapped_dense, swapped_lists, dense_table, dense_alive, freed_free}
+use Rattle.nxt_heap.proofs.Lists.OfPool.{list_in-none, set-set}
 use Rattle.nxt_heap.proofs.blocks.free_block.Goals as goal
 
 pub resize_block-requires-clause-whole : goal.resize_block-requires-clause-whole

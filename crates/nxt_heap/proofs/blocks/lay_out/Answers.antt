@@ -1,5 +1,5 @@
 use Rattle.std.proofs.Common.{rules, arith, ◌≡◌, get_or, length, replicate, ap, ◌∙◌}
-use Rattle.nxt_heap.proofs.Starts.{Freed, Freed-start, Freed-last, Freed-dense, Freed-end, Freed-lists, get_or-zeros}
+use Rattle.nxt_heap.proofs.Rows.AtStart.{Freed, Freed-start, Freed-last, Freed-dense, Freed-end, Freed-lists, get_or-zeros}
 use Rattle.nxt_heap.proofs.blocks.lay_out.Goals as goal
 
 pub loop-row-init : goal.loop-row-init

@@ -1,4 +1,4 @@
-use Rattle.nxt_heap.proofs.Starts.{Freed}
+use Rattle.nxt_heap.proofs.Rows.AtStart.{Freed}
 use Rattle.nxt_heap.proofs.blocks.lay_out.Given as goal
 
 abbrev pub invariant-loop-row : goal.invariant-loop-row

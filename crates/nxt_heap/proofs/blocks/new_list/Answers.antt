@@ -1,11 +1,11 @@
 use Rattle.std.proofs.Common.{◌≡◌, ◌≢◌, ◌∙◌, sym, ap, arith, refl, set}
 use Rattle.nxt_rows.specs.Rows.{dope_row, free_rows}
 use Rattle.nxt_heap.specs.Lists.{empty_list}
-use Rattle.nxt_heap.specs.Pool.{row_bytes, list_in, lists_in}
-use Rattle.nxt_heap.proofs.Freeing.{Front, any_free-front, with_free-free}
-use Rattle.nxt_heap.proofs.Places.{row_bytes-free, row_bytes-none}
-use Rattle.nxt_heap.proofs.Swapping.{Swaps, swapped_end, swapped_dense, swapped_lists, dense_table, taken_free}
-use Rattle.nxt_heap.proofs.Views.{list_in-some}
+use Rattle.nxt_heap.specs.Inside.Pool.{row_bytes, list_in, lists_in}
+use Rattle.nxt_heap.proofs.Rows.Free.{Front, any_free-front, with_free-free}
+use Rattle.nxt_heap.proofs.Pool.Places.{row_bytes-free, row_bytes-none}
+use Rattle.nxt_heap.proofs.Rows.TakenOrFreed.{Swaps, swapped_end, swapped_dense, swapped_lists, dense_table, taken_free}
+use Rattle.nxt_heap.proofs.Lists.OfPool.{list_in-some}
 use Rattle.nxt_heap.proofs.blocks.new_list.Goals as goal
 
 pub take_row-requires-clause-table : goal.take_row-requires-clause-table

@@ -1,8 +1,8 @@
 use Rattle.std.proofs.Common.{◌≡◌, ◌∙◌, ◌<◌, ap, arith}
 use Rattle.nxt_rows.specs.Rows.{dope_row, row_count}
-use Rattle.nxt_heap.specs.Pool.{row_block}
-use Rattle.nxt_heap.proofs.Places.{block_within}
-use Rattle.nxt_heap.proofs.Placing.{Places-start, Places-more}
+use Rattle.nxt_heap.specs.Inside.Pool.{row_block}
+use Rattle.nxt_heap.proofs.Pool.Places.{block_within}
+use Rattle.nxt_heap.proofs.Pool.PlacesWritten.{Places-start, Places-more}
 use Rattle.nxt_heap.proofs.blocks.place_rows.Goals as goal
 
 pub loop-row-init : goal.loop-row-init

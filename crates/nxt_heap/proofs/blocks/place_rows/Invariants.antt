@@ -1,4 +1,4 @@
-use Rattle.nxt_heap.proofs.Placing.{Places}
+use Rattle.nxt_heap.proofs.Pool.PlacesWritten.{Places}
 use Rattle.nxt_heap.proofs.blocks.place_rows.Given as goal
 
 abbrev pub invariant-loop-row : goal.invariant-loop-row

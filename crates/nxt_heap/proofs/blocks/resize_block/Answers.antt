@@ -2,10 +2,11 @@ use Rattle.std.proofs.Common.{◌≡◌, ◌∙◌, ◌+◌, ◌/◌, sym, ap, a
 use Rattle.std.proofs.Math.Nat.{div-le_self}
 use Rattle.nxt_types.specs.Pool.{round4}
 use Rattle.nxt_rows.specs.Rows.{dope_row, row_count}
-use Rattle.nxt_heap.specs.Pool.{row_bytes, row_block, start_of}
-use Rattle.nxt_heap.proofs.Places.{le-round4, row_block-is, row_in_pool, start_fits, start_of-le, table_within, block_ends}
-use Rattle.nxt_heap.proofs.Resizing.{Reshaped, Own, reshaped_count, reshaped_dense, reshaped_end, reshaped_lists}
-use Rattle.nxt_heap.proofs.Reshaping.{Written, Steps, set_count, written_end, whole_bytes, whole_block, Written-from, Steps-reshaped, own_row, later_bytes}
+use Rattle.nxt_heap.specs.Inside.Pool.{row_bytes, row_block, start_of}
+use Rattle.nxt_heap.proofs.Pool.Places.{row_block-is, row_in_pool, start_fits, start_of-le, table_within, block_ends}
+use Rattle.nxt_types.proofs.Laws.Pool.{le-round4}
+use Rattle.nxt_heap.proofs.Pool.Resized.{Reshaped, Own, reshaped_count, reshaped_dense, reshaped_end, reshaped_lists}
+use Rattle.nxt_heap.proofs.Pool.Steps.{Written, Steps, set_count, written_end, whole_bytes, whole_block, Written-from, Steps-reshaped, own_row, later_bytes}
 use Rattle.nxt_heap.proofs.blocks.resize_block.Goals as goal
 
 pub get-found-requires : goal.get-found-requires

@@ -1,6 +1,6 @@
 use Rattle.std.proofs.Common.{ap, arith}
-use Rattle.nxt_heap.specs.Pool.{row_bytes}
-use Rattle.nxt_heap.proofs.Places.{row_in_pool, within_pool}
+use Rattle.nxt_heap.specs.Inside.Pool.{row_bytes}
+use Rattle.nxt_heap.proofs.Pool.Places.{row_in_pool, within_pool}
 use Rattle.nxt_heap.proofs.blocks.row_bytes.Goals as goal
 
 pub get-found-requires : goal.get-found-requires

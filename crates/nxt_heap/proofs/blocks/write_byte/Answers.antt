@@ -1,6 +1,6 @@
 use Rattle.std.proofs.Common.{ap, arith}
-use Rattle.nxt_heap.proofs.Places.{row_in_pool, within_pool}
-use Rattle.nxt_heap.proofs.Writing.{WritesByte, byte_same, byte_lists, elements}
+use Rattle.nxt_heap.proofs.Pool.Places.{row_in_pool, within_pool}
+use Rattle.nxt_heap.proofs.Pool.ByteWritten.{WritesByte, byte_same, byte_lists, elements}
 use Rattle.nxt_heap.proofs.blocks.write_byte.Goals as goal
 
 pub get-found-requires : goal.get-found-requires

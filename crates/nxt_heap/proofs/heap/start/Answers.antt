@@ -1,6 +1,6 @@
 use Rattle.std.proofs.Common.{◌≡◌, take, replicate, refl, arith}
-use Rattle.nxt_heap.proofs.Places.{le-round4}
-use Rattle.nxt_heap.proofs.Kept.{take-zeros}
+use Rattle.nxt_types.proofs.Laws.Pool.{le-round4}
+use Rattle.nxt_heap.proofs.Lists.Kept.{take-zeros}
 use Rattle.nxt_heap.proofs.heap.start.Goals as goal
 
 pub returns-clause-state : goal.returns-clause-state

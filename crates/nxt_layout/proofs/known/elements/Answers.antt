@@ -1,7 +1,7 @@
 -- The elements of one more row.
 use Rattle.std.proofs.Common.{rules, arith}
-use Rattle.nxt_layout.specs.RowPasses.{ground_of}
-use Rattle.nxt_layout.proofs.Naming.{elements_more}
+use Rattle.nxt_layout.specs.Inside.RowPasses.{ground_of}
+use Rattle.nxt_layout.proofs.Dope.Named.{elements_more}
 use Rattle.nxt_layout.proofs.known.elements.Goals as goal
 
 pub loop-row-preserved : goal.loop-row-preserved

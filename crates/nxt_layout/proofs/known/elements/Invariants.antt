@@ -1,7 +1,7 @@
 -- The elements so far, and those of the rows that are left.
 use Rattle.std.proofs.Common.{◌≡◌, ◌≤◌, ◌+◌, ◌*◌, drop, length, flat_map}
 use Rattle.nxt_layout.specs.Rows.{elements_of}
-use Rattle.nxt_layout.specs.RowPasses.{ground_of}
+use Rattle.nxt_layout.specs.Inside.RowPasses.{ground_of}
 use Rattle.nxt_layout.proofs.known.elements.Given as goal
 
 abbrev pub invariant-loop-row : goal.invariant-loop-row

@@ -3,9 +3,9 @@ use Rattle.std.proofs.Common.{rules, ◌<◌, ◌^◌, flat_map, subst, ◌∙�
 use Rattle.std.proofs.lemmas.Result.{IfOk-weaker}
 use Rattle.nxt_model.specs.Reading.{row_count}
 use Rattle.nxt_layout.specs.Rows.{elements_of}
-use Rattle.nxt_layout.specs.RowPasses.{ground_of, numbers_in, Takes}
-use Rattle.nxt_layout.proofs.Through.{told_in}
-use Rattle.nxt_layout.proofs.Walking.{takes_all}
+use Rattle.nxt_layout.specs.Inside.RowPasses.{ground_of, numbers_in, Takes}
+use Rattle.nxt_layout.proofs.Dope.Through.{told_in}
+use Rattle.nxt_layout.proofs.Dope.Places.{takes_all}
 use Rattle.nxt_layout.proofs.known.found_anew.Goals as goal
 
 pub returns : goal.returns

@@ -3,10 +3,10 @@ use Rattle.std.proofs.Common.{◌≡◌, sym, ◌∙◌, subst, flat_map}
 use Rattle.std.proofs.lemmas.Result.{IfOk-weaker}
 use Rattle.std.specs.Rc.{rc_slice_items}
 use Rattle.nxt_layout.specs.Rows.{elements_of}
-use Rattle.nxt_layout.specs.RowPasses.{ground_of}
-use Rattle.nxt_layout.specs.Known.{Key, IsFoundIn}
-use Rattle.nxt_layout.proofs.Through.{same_found}
-use Rattle.nxt_layout.proofs.Keys.{known_more}
+use Rattle.nxt_layout.specs.Inside.RowPasses.{ground_of}
+use Rattle.nxt_layout.specs.Inside.Known.{Key, IsFoundIn}
+use Rattle.nxt_layout.proofs.Dope.Through.{same_found}
+use Rattle.nxt_layout.proofs.Dope.Kept.{known_more}
 use Rattle.nxt_layout.proofs.known.found_in.Goals as goal
 
 pub returns-in-Some-clause-found : goal.returns-in-Some-clause-found

@@ -2,8 +2,8 @@
 use Rattle.std.proofs.Common.{rules, ◌≡◌, ℕ, ◌+◌, ◌<◌, ◌≤◌, ◌^◌, [], ◌∷◌, refl, ap, subst, ◌∙◌, arith}
 use Rattle.std.proofs.lemmas.Result.{IfOk-weaker}
 use Rattle.nxt_model.specs.Reading.{row_count, u16_in}
-use Rattle.nxt_layout.specs.RowPasses.{ground_of, Takes}
-use Rattle.nxt_layout.proofs.Through.{told_in}
+use Rattle.nxt_layout.specs.Inside.RowPasses.{ground_of, Takes}
+use Rattle.nxt_layout.proofs.Dope.Through.{told_in}
 use Rattle.nxt_layout.proofs.known.found_outside.Goals as goal
 
 zero_more : (n : ℕ) → n ≡ 0 + n

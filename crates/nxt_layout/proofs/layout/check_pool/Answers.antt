@@ -6,9 +6,9 @@ use Rattle.nxt_types.specs.Pool.{round4, pool_size}
 use Rattle.nxt_layout.specs.declared.fault.LayoutFault.TheVariants.{PoolPassed}
 use Rattle.nxt_layout.specs.declared.reach.ArrayRows.{ArrayRows}
 use Rattle.nxt_layout.specs.Rows.{Ground, is_full_in}
-use Rattle.nxt_layout.specs.RowPasses.{ground_of, through, all_rows, list_count, full_bytes, is_full_by, IsMarked}
-use Rattle.nxt_layout.specs.Layouts.{ground_in, arrays_in, rows_in_file, size_of_start, pool_fault}
-use Rattle.nxt_layout.proofs.Below.{marked_bytes}
+use Rattle.nxt_layout.specs.Inside.RowPasses.{ground_of, through, all_rows, list_count, full_bytes, is_full_by, IsMarked}
+use Rattle.nxt_layout.specs.Inside.Passes.{ground_in, arrays_in, rows_in_file, size_of_start, pool_fault}
+use Rattle.nxt_layout.proofs.Dope.Searches.{marked_bytes}
 use Rattle.nxt_layout.proofs.layout.check_pool.Goals as goal
 
 -- more than the pool's bytes

@@ -3,18 +3,17 @@ use Rattle.std.proofs.Common.{◌≡◌, sym, ap, ◌∙◌}
 use Rattle.std.specs.Prelude.{slice_index}
 use Rattle.std.proofs.lemmas.Result.{IfOk-weaker}
 use Rattle.nxt_types.specs.Tables.{trees_of, outside_among, variables_behind}
-use Rattle.nxt_types.proofs.TableLemmas.{variables_back}
-use Rattle.nxt_layout.specs.Shaping.{outside_shapes}
-use Rattle.nxt_layout.specs.Start.{all_with_strides}
-use Rattle.nxt_layout.proofs.Shaping.{table_shapes}
-use Rattle.nxt_layout.proofs.Judging.{no_table_fault}
+use Rattle.nxt_types.proofs.Laws.Tables.{variables_back}
+use Rattle.nxt_table.specs.Inside.Shaping.{outside_shapes}
+use Rattle.nxt_table.specs.Strides.{all_with_strides}
+use Rattle.nxt_table.proofs.Laws.Shapes.{table_shapes}
 use Rattle.nxt_layout.proofs.layout.shapes_of.Goals as goal
 
 pub returns-clause-outside : goal.returns-clause-outside
 returns-clause-outside c =
     let p = c.args.parts.now in
     let f = slice_index c.args.strides.now in
-    let h = no_table_fault p c.requires.right in
+    let h = c.requires.kept in
     let ts = all_with_strides f 0 h.shapes in
     IfOk-weaker c.outside_shapes.result _ _
     (λ shapes e.

@@ -1,8 +1,8 @@
 -- The rows that are taken and those that are left.
 use Rattle.std.proofs.Common.{◌≡◌, ◌+◌, [], drop, fold, flat_map, length}
 use Rattle.nxt_layout.specs.Rows.{elements_of}
-use Rattle.nxt_layout.specs.RowPasses.{ground_of, keep_twice}
-use Rattle.nxt_layout.specs.Known.{IsWalked}
+use Rattle.nxt_layout.specs.Inside.RowPasses.{ground_of, keep_twice}
+use Rattle.nxt_layout.specs.Inside.Known.{IsWalked}
 use Rattle.nxt_layout.proofs.places.places_of.Given as goal
 
 abbrev pub invariant-loop-row : goal.invariant-loop-row

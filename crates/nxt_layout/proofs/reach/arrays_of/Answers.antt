@@ -3,13 +3,13 @@ use Rattle.std.proofs.Common.{rules, ◌≡◌, ◌+◌, ◌≤◌, ◌^◌, tru
 use Rattle.std.specs.Prelude.{slice_index}
 use Rattle.std.proofs.lemmas.List.{map-append, drop_more}
 use Rattle.std.proofs.lemmas.List.Elements.{All-cons, All-push}
-use Rattle.nxt_layout.specs.declared.item.Item.TheVariants.{Void}
-use Rattle.nxt_layout.specs.declared.leaves.Leaf.{Leaf}
+use Rattle.nxt_table.specs.declared.item.Item.TheVariants.{Void}
+use Rattle.nxt_table.specs.declared.leaves.PlacedLeaf.{PlacedLeaf}
 use Rattle.nxt_layout.specs.declared.reach.ArrayRows.{ArrayRows}
 use Rattle.nxt_layout.specs.declared.reach.OpenArray.{OpenArray}
-use Rattle.nxt_layout.specs.RowPasses.{ground_of, through, opened, back_to, is_array_item, array_leaves, through_from, places_in}
-use Rattle.nxt_layout.specs.Known.{IsOpen, IsFoundIn, IsKnown}
-use Rattle.nxt_layout.proofs.Through.{array_more, array_less, found_through, found_opened, found_open}
+use Rattle.nxt_layout.specs.Inside.RowPasses.{ground_of, through, opened, back_to, is_array_item, array_leaves, through_from, places_in}
+use Rattle.nxt_layout.specs.Inside.Known.{IsOpen, IsFoundIn, IsKnown}
+use Rattle.nxt_layout.proofs.Dope.Through.{array_more, array_less, found_through, found_opened, found_open}
 use Rattle.nxt_layout.proofs.reach.arrays_of.Goals.{then-is_array+in_ok-found+in_ok-push_front+in_ok-push, else-is_array}
 use Rattle.nxt_layout.proofs.reach.arrays_of.Goals as goal
 
@@ -25,7 +25,7 @@ loop-leaf-preserved c =
     let ext = slice_index c.args.extents.now in
     let leaves = c.args.leaves.now in
     let k = c.loop-leaf.leaf-index in
-    let d : Leaf = record { entry = 0; place = 0; item = Void; array = None; has_default = false } in
+    let d : PlacedLeaf = record { entry = 0; place = 0; item = Void; array = None; has_default = false } in
     let l = get_or leaves k d in
     let rest = drop (k + 1) leaves in
     let next : drop k leaves ≡ l ∷ rest = drop_more leaves k d c.loop-leaf-test.true in

@@ -1,8 +1,8 @@
 -- The arrays so far, and those that are left.
 use Rattle.std.proofs.Common.{◌≡◌, ◌≤◌, ◌^◌, ◌++◌, All, [], drop, length, map}
 use Rattle.std.specs.Prelude.{slice_index}
-use Rattle.nxt_layout.specs.RowPasses.{ground_of, through, opened, through_from, array_leaves}
-use Rattle.nxt_layout.specs.Known.{IsOpen, IsKnown}
+use Rattle.nxt_layout.specs.Inside.RowPasses.{ground_of, through, opened, through_from, array_leaves}
+use Rattle.nxt_layout.specs.Inside.Known.{IsOpen, IsKnown}
 use Rattle.nxt_layout.proofs.reach.arrays_of.Given as goal
 
 abbrev pub invariant-loop-leaf : goal.invariant-loop-leaf

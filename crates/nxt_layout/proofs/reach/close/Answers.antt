@@ -1,9 +1,9 @@
 -- One array less is open.
 use Rattle.std.proofs.Common.{rules, ◌≡◌, All, false, ap, sym, ◌∙◌, subst, map}
 use Rattle.std.proofs.lemmas.List.Elements.{All-drop}
-use Rattle.nxt_layout.specs.RowPasses.{opened, back_to, is_back}
-use Rattle.nxt_layout.specs.Known.{IsOpen}
-use Rattle.nxt_layout.proofs.Naming.{close_one}
+use Rattle.nxt_layout.specs.Inside.RowPasses.{opened, back_to, is_back}
+use Rattle.nxt_layout.specs.Inside.Known.{IsOpen}
+use Rattle.nxt_layout.proofs.Dope.Named.{close_one}
 use Rattle.nxt_layout.proofs.reach.close.Goals as goal
 
 pub loop-array-preserved-in-loop-array : goal.loop-array-preserved-in-loop-array

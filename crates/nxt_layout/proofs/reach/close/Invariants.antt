@@ -1,8 +1,8 @@
 -- Arrays are taken off up to the one that is next.
 use Rattle.std.proofs.Common.{◌≡◌, All, length, map}
 use Rattle.nxt_layout.specs.Rows.{Ground}
-use Rattle.nxt_layout.specs.RowPasses.{opened, back_to}
-use Rattle.nxt_layout.specs.Known.{IsOpen}
+use Rattle.nxt_layout.specs.Inside.RowPasses.{opened, back_to}
+use Rattle.nxt_layout.specs.Inside.Known.{IsOpen}
 use Rattle.nxt_layout.proofs.reach.close.Given as goal
 
 abbrev pub invariant-loop-array : goal.invariant-loop-array

@@ -1,6 +1,6 @@
 -- No array so far names a row past the table.
 use Rattle.std.proofs.Common.{◌≡◌, drop, map}
-use Rattle.nxt_layout.specs.RowPasses.{through, first_beyond}
+use Rattle.nxt_layout.specs.Inside.RowPasses.{through, first_beyond}
 use Rattle.nxt_layout.proofs.reach.first_beyond.Given as goal
 
 abbrev pub invariant-loop-array : goal.invariant-loop-array

@@ -5,9 +5,10 @@ use Rattle.nxt_model.specs.Reading.{row_count}
 use Rattle.nxt_layout.specs.declared.fault.LayoutFault.{LayoutFault}
 use Rattle.nxt_layout.specs.declared.fault.LayoutFault.TheVariants.{RowIndex, RowShared, Stride, RowPlace}
 use Rattle.nxt_layout.specs.Rows.{Ground, is_placed, is_full_in}
-use Rattle.nxt_layout.specs.RowPasses.{Through, ground_of, all_rows, through, first_beyond, first_below, misstrided_in, least, is_full_by, first_spans, spans_of, IsMarked}
-use Rattle.nxt_layout.specs.Layouts.{fault_or, overlap_fault, rows_fault}
-use Rattle.nxt_layout.proofs.Below.{first_twice, first_misplaced, marked_spans}
+use Rattle.nxt_layout.specs.Inside.RowPasses.{Through, ground_of, all_rows, through, first_beyond, first_below, misstrided_in, least, is_full_by, first_spans, spans_of, IsMarked}
+use Rattle.nxt_table.specs.Inside.Checks.{fault_or}
+use Rattle.nxt_layout.specs.Inside.Passes.{overlap_fault, rows_fault}
+use Rattle.nxt_layout.proofs.Dope.Searches.{first_twice, first_misplaced, marked_spans}
 use Rattle.nxt_layout.proofs.rows.check_rows.Goals as goal
 
 -- the first fault of what the passes find

@@ -1,8 +1,8 @@
 -- The bytes of an array's element are those of its leaves.
 use Rattle.std.proofs.Common.{slice_index, ap, ◌∙◌}
 use Rattle.std.proofs.lemmas.Result.{IfOk-weaker}
-use Rattle.nxt_layout.specs.RowPasses.{ground_of, extent_in}
-use Rattle.nxt_layout.proofs.ArrayLemmas.{found_below}
+use Rattle.nxt_layout.specs.Inside.RowPasses.{ground_of, extent_in}
+use Rattle.nxt_layout.proofs.Dope.Arrays.{found_below}
 use Rattle.nxt_layout.proofs.rows.found_arrays.Goals as goal
 
 pub returns-clause-found : goal.returns-clause-found

@@ -1,6 +1,7 @@
 -- The bytes of the rows so far.
 use Rattle.std.proofs.Common.{◌≡◌, ◌≤◌, ◌*◌, ◌^◌, if◌then◌else◌}
-use Rattle.nxt_layout.specs.RowPasses.{ground_of, sum_below, is_full_by, row_bytes}
+use Rattle.nxt_layout.specs.Inside.RowPasses.{ground_of, is_full_by, row_bytes}
+use Rattle.nxt_facts.specs.Sums.{sum_below}
 use Rattle.nxt_layout.proofs.rows.full_bytes.Given as goal
 
 abbrev pub invariant-loop-row : goal.invariant-loop-row

@@ -1,6 +1,6 @@
 -- The lists so far, and those of the arrays that are left.
 use Rattle.std.proofs.Common.{◌≡◌, ◌≤◌, ◌+◌, ◌*◌, ◌^◌, drop, map}
-use Rattle.nxt_layout.specs.RowPasses.{through, list_count}
+use Rattle.nxt_layout.specs.Inside.RowPasses.{through, list_count}
 use Rattle.nxt_layout.proofs.rows.lists_of.Given as goal
 
 abbrev pub invariant-loop-array : goal.invariant-loop-array

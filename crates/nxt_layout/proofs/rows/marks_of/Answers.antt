@@ -3,8 +3,8 @@ use Rattle.std.proofs.Common.{◌≡◌, ℕ, ◌+◌, ◌<◌, ◌≤◌, Bool,
 use Rattle.std.proofs.lemmas.Bool.Decides.{nat_tests}
 use Rattle.std.proofs.lemmas.List.{take-append-le, take_all, drop_more}
 use Rattle.std.proofs.lemmas.List.Sums.{sum_by-cons}
-use Rattle.nxt_layout.specs.RowPasses.{times}
-use Rattle.nxt_layout.proofs.Totals.{bit}
+use Rattle.nxt_layout.specs.Inside.RowPasses.{times}
+use Rattle.nxt_facts.proofs.Sums.{bit}
 use Rattle.nxt_layout.proofs.rows.marks_of.Goals as goal
 
 -- the marks with that of row q once more

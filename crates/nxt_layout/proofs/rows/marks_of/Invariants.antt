@@ -2,7 +2,7 @@
 use Rattle.std.proofs.Common.{◌≡◌, ◌<◌, ◌≤◌, ◌+◌, ℕ, drop, length}
 use Rattle.std.specs.Prelude.{slice_index, min}
 use Rattle.nxt_model.specs.Reading.{row_count}
-use Rattle.nxt_layout.specs.RowPasses.{ground_of, times}
+use Rattle.nxt_layout.specs.Inside.RowPasses.{ground_of, times}
 use Rattle.nxt_layout.proofs.rows.marks_of.Given as goal
 
 abbrev pub invariant-loop-row : goal.invariant-loop-row

@@ -1,8 +1,8 @@
 -- A row that is misplaced is the first; one more that is not.
 use Rattle.std.proofs.Common.{◌≡◌, ℕ, true, false, ap, sym, ◌∙◌, ◌&&◌, not, arith, rules}
 use Rattle.nxt_layout.specs.Rows.{is_placed}
-use Rattle.nxt_layout.specs.RowPasses.{ground_of, is_full_by, first_below}
-use Rattle.nxt_layout.proofs.Below.{below_here, below_next}
+use Rattle.nxt_layout.specs.Inside.RowPasses.{ground_of, is_full_by, first_below}
+use Rattle.nxt_layout.proofs.Dope.Searches.{below_here, below_next}
 use Rattle.nxt_layout.proofs.rows.misplaced.Goals as goal
 
 pub returns-then-not-is_placed : goal.returns-then-not-is_placed

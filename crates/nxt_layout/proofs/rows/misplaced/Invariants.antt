@@ -1,7 +1,7 @@
 -- No row so far is misplaced.
 use Rattle.std.proofs.Common.{◌≡◌, ◌-◌, ◌&&◌, not}
 use Rattle.nxt_layout.specs.Rows.{is_placed}
-use Rattle.nxt_layout.specs.RowPasses.{ground_of, first_below, is_full_by}
+use Rattle.nxt_layout.specs.Inside.RowPasses.{ground_of, first_below, is_full_by}
 use Rattle.nxt_layout.proofs.rows.misplaced.Given as goal
 
 abbrev pub invariant-loop-row : goal.invariant-loop-row

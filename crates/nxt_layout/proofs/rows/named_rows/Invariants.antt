@@ -1,6 +1,6 @@
 -- The rows so far, and those of the arrays that are left.
 use Rattle.std.proofs.Common.{◌≡◌, ◌++◌, drop, map}
-use Rattle.nxt_layout.specs.RowPasses.{through, all_rows}
+use Rattle.nxt_layout.specs.Inside.RowPasses.{through, all_rows}
 use Rattle.nxt_layout.proofs.rows.named_rows.Given as goal
 
 abbrev pub invariant-loop-array : goal.invariant-loop-array

@@ -1,7 +1,7 @@
 -- One more row is not named twice.
 use Rattle.std.proofs.Common.{◌≡◌, false, ◌∙◌, nat_lt, arith, rules}
 use Rattle.std.specs.Prelude.{slice_index}
-use Rattle.nxt_layout.proofs.Below.{below_next}
+use Rattle.nxt_layout.proofs.Dope.Searches.{below_next}
 use Rattle.nxt_layout.proofs.rows.shared.Goals as goal
 
 pub loop-row-preserved : goal.loop-row-preserved

@@ -1,7 +1,7 @@
 -- No row so far is named twice.
 use Rattle.std.proofs.Common.{◌≡◌, ◌-◌}
 use Rattle.std.specs.Prelude.{nat_lt, slice_index}
-use Rattle.nxt_layout.specs.RowPasses.{first_below}
+use Rattle.nxt_layout.specs.Inside.RowPasses.{first_below}
 use Rattle.nxt_layout.proofs.rows.shared.Given as goal
 
 abbrev pub invariant-loop-row : goal.invariant-loop-row

@@ -2,8 +2,8 @@
 use Rattle.std.proofs.Common.{◌+◌, map, take, subst, sym, ◌∙◌, add-one, arith}
 use Rattle.std.proofs.lemmas.List.{length-set}
 use Rattle.std.specs.Prelude.{slice_set}
-use Rattle.nxt_layout.specs.RowPasses.{ground_of, through, HaveStrides}
-use Rattle.nxt_layout.proofs.ArrayLemmas.{array_at, one_more_stride}
+use Rattle.nxt_layout.specs.Inside.RowPasses.{ground_of, through, HaveStrides}
+use Rattle.nxt_layout.proofs.Dope.Arrays.{array_at, one_more_stride}
 use Rattle.nxt_layout.proofs.rows.strides_of.Goals as goal
 
 pub index_mut-requires : goal.index_mut-requires

@@ -1,6 +1,6 @@
 -- The arrays so far have their strides.
 use Rattle.std.proofs.Common.{◌≡◌, length, take, map}
-use Rattle.nxt_layout.specs.RowPasses.{ground_of, through, HaveStrides}
+use Rattle.nxt_layout.specs.Inside.RowPasses.{ground_of, through, HaveStrides}
 use Rattle.nxt_layout.proofs.rows.strides_of.Given as goal
 
 abbrev pub invariant-loop-array : goal.invariant-loop-array

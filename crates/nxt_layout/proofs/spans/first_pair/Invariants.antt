@@ -1,6 +1,6 @@
 -- None so far shares a byte with a later one.
 use Rattle.std.proofs.Common.{◌≡◌, drop}
-use Rattle.nxt_layout.specs.RowPasses.{first_spans}
+use Rattle.nxt_layout.specs.Inside.RowPasses.{first_spans}
 use Rattle.nxt_layout.proofs.spans.first_pair.Given as goal
 
 abbrev pub invariant-loop-i : goal.invariant-loop-i

@@ -1,8 +1,8 @@
 -- Spans that are in line share no byte.
 use Rattle.std.proofs.Common.{◌++◌, ◌∙◌, sym, ap, subst}
 use Rattle.std.specs.List.Sorted.{IsPermutation}
-use Rattle.nxt_layout.specs.RowPasses.{follow}
-use Rattle.nxt_layout.proofs.SpanLemmas.{in_line}
+use Rattle.nxt_layout.specs.Inside.RowPasses.{follow}
+use Rattle.nxt_layout.proofs.Dope.Spans.{in_line}
 use Rattle.nxt_layout.proofs.spans.lie_apart.Goals as goal
 
 pub returns : goal.returns

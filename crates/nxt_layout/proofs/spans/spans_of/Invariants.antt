@@ -1,6 +1,6 @@
 -- The spans so far, and those that are left.
 use Rattle.std.proofs.Common.{◌≡◌, ◌-◌, ◌++◌}
-use Rattle.nxt_layout.specs.RowPasses.{ground_of, is_full_by, spans_from, spans_of}
+use Rattle.nxt_layout.specs.Inside.RowPasses.{ground_of, is_full_by, spans_from, spans_of}
 use Rattle.nxt_layout.proofs.spans.spans_of.Given as goal
 
 abbrev pub invariant-loop-row : goal.invariant-loop-row

@@ -1,7 +1,7 @@
 -- The least so far, and those that are left.
 use Rattle.std.proofs.Common.{◌≡◌, drop, filter}
-use Rattle.nxt_layout.specs.Owners.{least_of}
-use Rattle.nxt_layout.specs.RowPasses.{ground_of, least, is_odd}
+use Rattle.nxt_table.specs.Inside.Owners.{least_of}
+use Rattle.nxt_layout.specs.Inside.RowPasses.{ground_of, least, is_odd}
 use Rattle.nxt_layout.proofs.strides.first_odd.Given as goal
 
 abbrev pub invariant-loop-row : goal.invariant-loop-row

@@ -1,8 +1,8 @@
 -- The least so far, and those that are left.
 use Rattle.std.proofs.Common.{◌≡◌, drop, filter}
-use Rattle.nxt_layout.specs.Owners.{least_of}
+use Rattle.nxt_table.specs.Inside.Owners.{least_of}
 use Rattle.nxt_layout.specs.Rows.{has_elements}
-use Rattle.nxt_layout.specs.RowPasses.{ground_of, least}
+use Rattle.nxt_layout.specs.Inside.RowPasses.{ground_of, least}
 use Rattle.nxt_layout.proofs.strides.lead.Given as goal
 
 abbrev pub invariant-loop-row : goal.invariant-loop-row

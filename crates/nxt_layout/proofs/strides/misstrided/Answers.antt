@@ -1,9 +1,9 @@
 -- With the least of one more array.
 use Rattle.std.proofs.Common.{◌≡◌, ◌+◌, ◌∷◌, ap, sym, ◌∙◌, map, flat_map, drop}
-use Rattle.nxt_layout.specs.Owners.{least_of}
-use Rattle.nxt_layout.specs.RowPasses.{ground_of, least, misstrided_in, through}
-use Rattle.nxt_layout.proofs.Leading.{least_of-none}
-use Rattle.nxt_layout.proofs.Through.{least_more, drop_next}
+use Rattle.nxt_table.specs.Inside.Owners.{least_of}
+use Rattle.nxt_layout.specs.Inside.RowPasses.{ground_of, least, misstrided_in, through}
+use Rattle.nxt_layout.proofs.Dope.Strides.{least_of-none}
+use Rattle.nxt_layout.proofs.Dope.Through.{least_more, drop_next}
 use Rattle.nxt_layout.proofs.strides.misstrided.Goals.{in-Some, in_default}
 use Rattle.nxt_layout.proofs.strides.misstrided.Goals as goal
 

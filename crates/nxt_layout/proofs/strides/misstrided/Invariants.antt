@@ -1,7 +1,7 @@
 -- The least so far, and the arrays that are left.
 use Rattle.std.proofs.Common.{◌≡◌, drop, map, flat_map}
-use Rattle.nxt_layout.specs.Owners.{least_of}
-use Rattle.nxt_layout.specs.RowPasses.{ground_of, least, misstrided_in, through}
+use Rattle.nxt_table.specs.Inside.Owners.{least_of}
+use Rattle.nxt_layout.specs.Inside.RowPasses.{ground_of, least, misstrided_in, through}
 use Rattle.nxt_layout.proofs.strides.misstrided.Given as goal
 
 abbrev pub invariant-loop-array : goal.invariant-loop-array

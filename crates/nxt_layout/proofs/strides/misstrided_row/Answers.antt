@@ -2,9 +2,9 @@
 use Rattle.std.proofs.Common.{ℕ, Bool, not, ap, sym, ◌∙◌, filter, List}
 use Rattle.std.proofs.lemmas.List.{drop_all}
 use Rattle.std.specs.Rc.{rc_slice_items}
-use Rattle.nxt_layout.specs.Owners.{least_of}
-use Rattle.nxt_layout.specs.RowPasses.{ground_of, least, odd_of, is_even, through}
-use Rattle.nxt_layout.proofs.Leading.{least_of-none, missed_evenly}
+use Rattle.nxt_table.specs.Inside.Owners.{least_of}
+use Rattle.nxt_layout.specs.Inside.RowPasses.{ground_of, least, odd_of, is_even, through}
+use Rattle.nxt_layout.proofs.Dope.Strides.{least_of-none, missed_evenly}
 use Rattle.nxt_layout.proofs.strides.misstrided_row.Goals as goal
 
 pub returns : goal.returns

@@ -1,7 +1,7 @@
 -- The least so far, and those that are left.
 use Rattle.std.proofs.Common.{◌≡◌, not, drop, filter}
-use Rattle.nxt_layout.specs.Owners.{least_of}
-use Rattle.nxt_layout.specs.RowPasses.{ground_of, least, is_even}
+use Rattle.nxt_table.specs.Inside.Owners.{least_of}
+use Rattle.nxt_layout.specs.Inside.RowPasses.{ground_of, least, is_even}
 use Rattle.nxt_layout.proofs.strides.misstrided_row.Given as goal
 
 abbrev pub invariant-loop-row : goal.invariant-loop-row

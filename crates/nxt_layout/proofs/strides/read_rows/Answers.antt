@@ -2,8 +2,8 @@
 use Rattle.std.proofs.Common.{ℕ, Bool, ◌++◌, ◌&&◌, ap, sym, ◌∙◌, filter, append-nil}
 use Rattle.std.proofs.lemmas.List.{drop_all}
 use Rattle.nxt_layout.specs.Rows.{is_placed}
-use Rattle.nxt_layout.specs.RowPasses.{ground_of, odd_of, is_even}
-use Rattle.nxt_layout.proofs.Leading.{read_evenly}
+use Rattle.nxt_layout.specs.Inside.RowPasses.{ground_of, odd_of, is_even}
+use Rattle.nxt_layout.proofs.Dope.Strides.{read_evenly}
 use Rattle.nxt_layout.proofs.strides.read_rows.Goals as goal
 
 pub returns : goal.returns

@@ -1,7 +1,7 @@
 -- Those that are read so far, and those that are left.
 use Rattle.std.proofs.Common.{◌≡◌, ◌++◌, ◌&&◌, drop, filter}
 use Rattle.nxt_layout.specs.Rows.{is_placed}
-use Rattle.nxt_layout.specs.RowPasses.{ground_of, odd_of, is_even}
+use Rattle.nxt_layout.specs.Inside.RowPasses.{ground_of, odd_of, is_even}
 use Rattle.nxt_layout.proofs.strides.read_rows.Given as goal
 
 abbrev pub invariant-loop-row : goal.invariant-loop-row

@@ -2,7 +2,7 @@
 use Rattle.std.proofs.Common.{◌≡◌, drop, find}
 use Rattle.std.specs.Rc.{rc_slice_items}
 use Rattle.nxt_layout.specs.Rows.{has_elements}
-use Rattle.nxt_layout.specs.RowPasses.{ground_of}
+use Rattle.nxt_layout.specs.Inside.RowPasses.{ground_of}
 use Rattle.nxt_layout.proofs.strides.stride_of.Given as goal
 
 abbrev pub invariant-loop-row : goal.invariant-loop-row

@@ -3,8 +3,8 @@ use Rattle.std.proofs.Common.{ap, arith}
 use Rattle.nxt_model.specs.Values.{list_of, stored}
 use Rattle.nxt_space.specs.Variables.{shape_of, with_value}
 use Rattle.nxt_operands.specs.Operands.{Done}
-use Rattle.nxt_operands.proofs.Meant.{given_stored, spelled_given}
-use Rattle.nxt_operands.proofs.Refused.{passed_on}
+use Rattle.nxt_operands.proofs.Laws.OneStored.{given_stored, spelled_given}
+use Rattle.nxt_operands.proofs.Laws.Refusals.{passed_on}
 use Rattle.nxt_lists.specs.Pieces.{pieces_of}
 use Rattle.nxt_lists.proofs.ListStored.{list_size, list_storable}
 use Rattle.nxt_lists.proofs.Sources.{pieces_for}

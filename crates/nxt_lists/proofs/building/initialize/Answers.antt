@@ -6,13 +6,13 @@ use mir.Val.{SFits}
 use Rattle.nxt_types.specs.Arithmetic.{word}
 use Rattle.nxt_types.specs.Shapes.{tree}
 use Rattle.nxt_model.specs.Values.{list_of, stored}
-use Rattle.nxt_space.specs.Sizes.{IsCountable, size_of_filled}
+use Rattle.nxt_values.specs.Sizes.{IsCountable, size_of_filled}
 use Rattle.nxt_space.specs.Variables.{shape_of, value_of, with_value}
-use Rattle.nxt_space.specs.declared.sizing.Size.{Size}
+use Rattle.nxt_values.specs.declared.sizing.Size.{Size}
 use Rattle.nxt_operands.specs.Operands.{Done, with_list}
 use Rattle.nxt_lists.proofs.ListStored.{list_storable}
-use Rattle.nxt_operands.proofs.Meant.{Gives, given_stored, spelled_given}
-use Rattle.nxt_operands.proofs.Refused.{passed_on}
+use Rattle.nxt_operands.proofs.Laws.OneStored.{Gives, given_stored, spelled_given}
+use Rattle.nxt_operands.proofs.Laws.Refusals.{passed_on}
 use Rattle.nxt_lists.proofs.Copies.{is_copied, copies_spelled}
 use Rattle.nxt_lists.proofs.building.initialize.Goals as goal
 

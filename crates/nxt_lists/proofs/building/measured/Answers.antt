@@ -1,7 +1,7 @@
 -- One more source's elements.
 use Rattle.std.proofs.Common.{◌+◌, arith, sym, ap, ◌∙◌, subst}
 use Rattle.nxt_types.specs.Shapes.{tree}
-use Rattle.nxt_space.proofs.Counting.{CanAdd, both}
+use Rattle.nxt_values.proofs.Laws.Sizes.{CanAdd, both}
 use Rattle.nxt_lists.proofs.Sources.{AreSources, measured_more}
 use Rattle.nxt_lists.proofs.building.measured.Goals as goal
 

@@ -5,8 +5,8 @@ use Rattle.std.proofs.Math.Facts.{to_z-of_z}
 use mir.Val.{SFits}
 use Rattle.nxt_model.specs.Values.{Num, elements}
 use Rattle.nxt_space.specs.Variables.{value_of}
-use Rattle.nxt_operands.proofs.Stored.{number_set}
-use Rattle.nxt_operands.proofs.Meant.{given_stored}
+use Rattle.nxt_operands.proofs.Laws.Stored.{number_set}
+use Rattle.nxt_operands.proofs.Laws.OneStored.{given_stored}
 use Rattle.nxt_lists.proofs.elements.array_size.Goals as goal
 
 pub returns : goal.returns

@@ -4,7 +4,7 @@ use Rattle.std.specs.Prelude.{slice_index_or}
 use Rattle.nxt_model.specs.Means.Effects.{element}
 use Rattle.nxt_model.specs.Values.{elements, zero_of}
 use Rattle.nxt_space.specs.Variables.{shape_of, value_of}
-use Rattle.nxt_operands.proofs.Meant.{Gives, spelled_given}
+use Rattle.nxt_operands.proofs.Laws.OneStored.{Gives, spelled_given}
 use Rattle.nxt_lists.proofs.Storable.{index_storable}
 use Rattle.nxt_lists.proofs.elements.index.Goals as goal
 

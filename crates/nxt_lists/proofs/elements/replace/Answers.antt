@@ -9,7 +9,7 @@ use Rattle.nxt_space.specs.Variables.{shape_of, value_of}
 use Rattle.nxt_operands.specs.Operands.{given}
 use Rattle.nxt_lists.proofs.Between.{replaced_overwritten}
 use Rattle.nxt_lists.proofs.ListStored.{list_storable}
-use Rattle.nxt_operands.proofs.Meant.{Gives, spelled_given}
+use Rattle.nxt_operands.proofs.Laws.OneStored.{Gives, spelled_given}
 use Rattle.nxt_lists.proofs.Sections.{overwritten_for}
 use Rattle.nxt_lists.proofs.elements.replace.Goals as goal
 

@@ -8,7 +8,7 @@ use Rattle.nxt_space.specs.Variables.{value_of}
 use Rattle.nxt_operands.specs.Operands.{given_or_left}
 use Rattle.nxt_lists.proofs.Between.{section_at}
 use Rattle.nxt_lists.proofs.ListStored.{list_storable}
-use Rattle.nxt_operands.proofs.Meant.{Gives, spelled_given}
+use Rattle.nxt_operands.proofs.Laws.OneStored.{Gives, spelled_given}
 use Rattle.nxt_lists.proofs.Sections.{section_for}
 use Rattle.nxt_lists.proofs.elements.subset.Goals as goal
 

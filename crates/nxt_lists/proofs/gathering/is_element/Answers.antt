@@ -3,7 +3,7 @@ use Rattle.std.proofs.Common.{sym, ap, ap₂, ◌∙◌}
 use Rattle.nxt_types.specs.OperandRules.{element_of}
 use Rattle.nxt_types.specs.Shapes.{tree, convertible}
 use Rattle.nxt_space.specs.Variables.{name_of, shape_of}
-use Rattle.nxt_operands.proofs.Told.{told, untold, no_void}
+use Rattle.nxt_operands.proofs.Laws.Shapes.{told, untold, no_void}
 use Rattle.nxt_lists.proofs.gathering.is_element.Goals as goal
 
 pub returns-in-Some-Some : goal.returns-in-Some-Some

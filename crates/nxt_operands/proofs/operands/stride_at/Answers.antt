@@ -3,7 +3,7 @@ use Rattle.std.proofs.Common.{sym, ap, ◌∙◌}
 use Rattle.nxt_types.specs.Shapes.{tree}
 use Rattle.nxt_space.specs.Variables.{name_of}
 use Rattle.nxt_operands.specs.Operands.{stride_of}
-use Rattle.nxt_operands.proofs.Told.{told}
+use Rattle.nxt_operands.proofs.Laws.Shapes.{told}
 use Rattle.nxt_operands.proofs.operands.stride_at.Goals as goal
 
 pub returns-in-Some : goal.returns-in-Some

@@ -3,7 +3,7 @@ use Rattle.std.proofs.Common.{length, drop, take, ◌-◌, ◌++◌, ap, ◌∙�
 use Rattle.std.specs.Prelude.{pos}
 use Rattle.nxt_space.specs.Variables.{value_of}
 use Rattle.nxt_operands.specs.Numbers.{numbers_in}
-use Rattle.nxt_operands.proofs.NumberLists.{flat_numbers, behind_first}
+use Rattle.nxt_operands.proofs.Laws.NumberLists.{flat_numbers, behind_first}
 use Rattle.nxt_operands.proofs.reading.numbers_of.Goals as goal
 
 pub returns : goal.returns

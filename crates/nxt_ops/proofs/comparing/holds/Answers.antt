@@ -8,8 +8,8 @@ use Rattle.nxt_model.specs.Means.Numbers.{signed_kind, either_signed}
 use Rattle.nxt_space.specs.Variables.{shape_of, value_of}
 use Rattle.nxt_ops.specs.Ops.{deciding_numbers}
 use Rattle.nxt_ops.proofs.DecidingNumbers.{numbers_held, lists_held}
-use Rattle.nxt_operands.proofs.NumberLists.{alike_numbers, variable_numbers}
-use Rattle.nxt_ops.proofs.Signs.{first_holds, second_tells}
+use Rattle.nxt_operands.proofs.Laws.NumberLists.{alike_numbers, variable_numbers}
+use Rattle.nxt_facts.proofs.Either.{first_holds, second_tells}
 use Rattle.nxt_ops.proofs.comparing.holds.Goals.{then-has_sign, else-has_sign, then-has_signed_elements, else-has_signed_elements}
 use Rattle.nxt_ops.proofs.comparing.holds.Goals as goal
 

@@ -1,7 +1,7 @@
 -- Each word is cut to the kind of the list's elements.
 use Rattle.nxt_space.specs.Variables.{shape_of}
 use Rattle.nxt_operands.specs.Operands.{given}
-use Rattle.nxt_operands.proofs.Stored.{spelled_stored}
+use Rattle.nxt_operands.proofs.Laws.Stored.{spelled_stored}
 use Rattle.nxt_ops.specs.Ops.{value_of_two}
 use Rattle.nxt_ops.proofs.Words.{are_listed, two_storable}
 use Rattle.nxt_ops.proofs.lists.combine_lists.Goals as goal

@@ -1,9 +1,9 @@
 -- Each word is cut to the kind of the list's elements.
 use Rattle.nxt_space.specs.Variables.{shape_of, value_of}
 use Rattle.nxt_operands.specs.Operands.{given}
-use Rattle.nxt_operands.proofs.Counting.{sound_part}
-use Rattle.nxt_operands.proofs.NumberLists.{are_numbers}
-use Rattle.nxt_operands.proofs.Stored.{spelled_stored}
+use Rattle.nxt_operands.proofs.Laws.Sizes.{sound_part}
+use Rattle.nxt_operands.proofs.Laws.NumberLists.{are_numbers}
+use Rattle.nxt_operands.proofs.Laws.Stored.{spelled_stored}
 use Rattle.nxt_ops.specs.Ops.{value_of_one}
 use Rattle.nxt_ops.proofs.Words.{are_lists, one_storable}
 use Rattle.nxt_ops.proofs.lists.map_list.Goals as goal

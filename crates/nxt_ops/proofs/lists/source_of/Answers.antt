@@ -1,7 +1,7 @@
 -- What is plain and no number is a list of numbers.
 use Rattle.std.proofs.Common.{sym, ◌∙◌}
 use Rattle.nxt_space.specs.Variables.{shape_of}
-use Rattle.nxt_operands.proofs.NumberLists.{plain_numbers, variable_numbers}
+use Rattle.nxt_operands.proofs.Laws.NumberLists.{plain_numbers, variable_numbers}
 use Rattle.nxt_ops.proofs.lists.source_of.Goals as goal
 
 pub numbers_of-requires-clause-list : goal.numbers_of-requires-clause-list

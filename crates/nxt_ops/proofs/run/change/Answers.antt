@@ -4,7 +4,7 @@ use Rattle.std.specs.Prelude.{pos}
 use Rattle.nxt_space.specs.Variables.{shape_of, value_of}
 use Rattle.nxt_ops.specs.Ops.{value_of_one}
 use Rattle.nxt_operands.specs.Operands.{given}
-use Rattle.nxt_operands.proofs.Stored.{number_set}
+use Rattle.nxt_operands.proofs.Laws.Stored.{number_set}
 use Rattle.nxt_ops.proofs.Words.{one_word}
 use Rattle.nxt_ops.proofs.run.change.Goals as goal
 

@@ -6,7 +6,7 @@ use Rattle.nxt_model.specs.Means.Numbers.{signed_kind, either_signed}
 use Rattle.nxt_space.specs.Variables.{shape_of, value_of}
 use Rattle.nxt_ops.specs.Ops.{value_of_two}
 use Rattle.nxt_operands.specs.Operands.{given}
-use Rattle.nxt_operands.proofs.Stored.{number_set}
+use Rattle.nxt_operands.proofs.Laws.Stored.{number_set}
 use Rattle.nxt_ops.proofs.Words.{are_compared, two_word, compared_word}
 use Rattle.nxt_ops.proofs.run.combine.Goals as goal
 use Rattle.nxt_ops.proofs.run.combine.Goals.{in-Compare+in_ok-holds-in-Compare, in-Calculate, then-has_sign, else-has_sign}

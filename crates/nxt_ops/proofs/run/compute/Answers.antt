@@ -13,9 +13,9 @@ use Rattle.nxt_space.specs.Outcomes.{Does}
 use Rattle.nxt_ops.specs.Ops.{asked_of_two, runs, stores, two_of, one_of}
 use Rattle.nxt_operands.specs.Operands.{Done}
 use Rattle.nxt_ops.proofs.Fitting.{ThreeFit, Alike, two_fit, one_fit, mov_fit, set_fit}
-use Rattle.nxt_operands.proofs.Named.{named_some}
+use Rattle.nxt_operands.proofs.Laws.Named.{named_some}
 use Rattle.nxt_ops.proofs.Meanings.{two_means, one_means, mov_means, set_means, only_set}
-use Rattle.nxt_operands.proofs.Stored.{number_set}
+use Rattle.nxt_operands.proofs.Laws.Stored.{number_set}
 use Rattle.nxt_ops.proofs.run.compute.Goals as goal
 
 -- ---- two values

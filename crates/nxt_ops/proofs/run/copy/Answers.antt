@@ -1,7 +1,7 @@
 -- A value is stored by its flat form, whose lists are those of a part of the variables.
 use Rattle.std.proofs.Common.{sym, ◌∙◌, w64, to_z-of_z}
 use Rattle.nxt_space.specs.Variables.{value_of}
-use Rattle.nxt_operands.proofs.Stored.{number_set, copy_storable, spelled_stored}
+use Rattle.nxt_operands.proofs.Laws.Stored.{number_set, copy_storable, spelled_stored}
 use Rattle.nxt_ops.proofs.run.copy.Goals as goal
 
 pub returns-then-is_number : goal.returns-then-is_number

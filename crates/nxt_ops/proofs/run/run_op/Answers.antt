@@ -4,10 +4,10 @@ use Rattle.std.proofs.Math.Facts.{to_z-of_z}
 use mir.Val.{SFits}
 use Rattle.nxt_types.specs.Arithmetic.{compare}
 use Rattle.nxt_operands.specs.Operands.{Done}
-use Rattle.nxt_operands.proofs.Refused.{passed_on}
+use Rattle.nxt_operands.proofs.Laws.Refusals.{passed_on}
 use Rattle.nxt_ops.specs.Ops.{next_of, values_after}
 use Rattle.nxt_ops.proofs.Fitting.{Alike, brcmp_fit, brtst_fit}
-use Rattle.nxt_operands.proofs.Named.{named_some}
+use Rattle.nxt_operands.proofs.Laws.Named.{named_some}
 use Rattle.nxt_ops.proofs.Meanings.{brcmp_means, brtst_means, brcmp_keeps, brtst_keeps, falls, goes_on}
 use Rattle.nxt_ops.proofs.run.run_op.Goals as goal
 

@@ -4,11 +4,11 @@ use Rattle.nxt_rxe.specs.declared.parts.Parts.{Parts}
 use Rattle.nxt_rxe.specs.declared.fault.RxeFault.TheVariants.{Section, NoMemory}
 use Rattle.nxt_rxe.specs.Files.{IsFile}
 use Rattle.nxt_rxe.specs.FileRules.{table_end}
-use Rattle.nxt_rxe.specs.Reading.{ArePartsOf, bytes_of}
-use Rattle.nxt_rxe.proofs.FileLaw.{at_most_one}
-use Rattle.nxt_rxe.proofs.FileSound.{breaks_nothing}
-use Rattle.nxt_rxe.proofs.FirstFault.{first_section_is}
-use Rattle.nxt_rxe.proofs.Found.{is_accepted, is_found, part_len}
+use Rattle.nxt_rxe.specs.Inside.Reading.{ArePartsOf, bytes_of}
+use Rattle.nxt_rxe.proofs.Files.OneList.{at_most_one}
+use Rattle.nxt_rxe.proofs.Rules.Accepted.{breaks_nothing}
+use Rattle.nxt_rxe.proofs.Rules.FirstBroken.{first_section_is}
+use Rattle.nxt_rxe.proofs.Files.Found.{is_accepted, is_found, part_len}
 use Rattle.nxt_rxe.proofs.file.read_rxe.Goals as goal
 
 pub returns-in_err-check_head-clause-accepted : goal.returns-in_err-check_head-clause-accepted

@@ -1,7 +1,7 @@
 use Rattle.std.proofs.Common.{◌≡◌, ℕ, ◌<◌, ◌++◌, List, ap₂, subst, ◌∙◌, append_assoc, OnOk, All}
 use Rattle.std.specs.List.{flat_map}
 use Rattle.nxt_rxe.specs.Files.{two_bytes, format, version, numbers}
-use Rattle.nxt_rxe.proofs.Steps.{on_ok}
+use Rattle.nxt_facts.proofs.Tests.{on_ok}
 use Rattle.nxt_rxe.proofs.head.append_head.Goals as goal
 
 pub returns-clause-spelled : goal.returns-clause-spelled

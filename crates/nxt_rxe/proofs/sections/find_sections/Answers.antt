@@ -1,7 +1,7 @@
 use Rattle.std.proofs.Common.{◌≡◌, ℕ, ◌+◌, ◌*◌, slice_range, ap, ap₂, sym, ◌∙◌, arith}
 use Rattle.std.proofs.lemmas.Result.{err_from_is_err_and}
 use Rattle.nxt_rxe.specs.FileRules.{dependents_told, clumps_start, clumps_end}
-use Rattle.nxt_rxe.proofs.FirstFault.{clumps_first, dependents_first, code_first}
+use Rattle.nxt_rxe.proofs.Rules.FirstBroken.{clumps_first, dependents_first, code_first}
 use Rattle.nxt_rxe.proofs.sections.find_sections.Goals as goal
 
 pub returns-in_err-clumps-clause-err : goal.returns-in_err-clumps-clause-err

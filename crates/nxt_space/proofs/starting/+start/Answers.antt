@@ -7,9 +7,9 @@ use Rattle.nxt_types.specs.Shapes.{cluster_of, tree, members}
 use Rattle.nxt_types.specs.Names.{size}
 use Rattle.nxt_model.specs.Values.{elements, flat}
 use Rattle.nxt_model.specs.Reading.{Reads}
-use Rattle.nxt_space.specs.Starts.{memory_of}
-use Rattle.nxt_space.proofs.GroupTree.{group_tree}
-use Rattle.nxt_space.proofs.FileReads.{Adds, MembersBehind, elements_begin, elements_more, members_more}
+use Rattle.nxt_space.specs.Inside.Starts.{memory_of}
+use Rattle.nxt_types.proofs.Laws.Trees.{group_tree}
+use Rattle.nxt_space.proofs.Start.FlatForms.{Adds, MembersBehind, elements_begin, elements_more, members_more}
 use Rattle.nxt_space.proofs.starting.+start.Goals as goal
 
 -- ---- lists

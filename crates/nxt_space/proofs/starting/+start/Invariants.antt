@@ -4,8 +4,8 @@ use Rattle.nxt_types.specs.Shapes.{tree, members}
 use Rattle.nxt_types.specs.Names.{size, sizes}
 use Rattle.nxt_model.specs.Values.{Value, flat}
 use Rattle.nxt_model.specs.Reading.{HeldList, Reads}
-use Rattle.nxt_space.specs.Starts.{memory_of}
-use Rattle.nxt_space.proofs.FileReads.{ElementsToAdd, MembersBehind}
+use Rattle.nxt_space.specs.Inside.Starts.{memory_of}
+use Rattle.nxt_space.proofs.Start.FlatForms.{ElementsToAdd, MembersBehind}
 use Rattle.nxt_space.proofs.starting.+start.Given as goal
 
 abbrev pub decreases-add_start : goal.decreases-add_start

@@ -1,7 +1,7 @@
 -- A group's bytes are those of its members.
 use Rattle.std.proofs.Common.{◌≡◌, ◌++◌, IfOk, map, sym, subst}
 use Rattle.nxt_types.specs.Shapes.{cluster_of, tree}
-use Rattle.nxt_space.proofs.GroupTree.{group_tree}
+use Rattle.nxt_types.proofs.Laws.Trees.{group_tree}
 use Rattle.nxt_texts.specs.Packing.{packed_front}
 use Rattle.nxt_texts.proofs.packing.+pack.Goals as goal
 

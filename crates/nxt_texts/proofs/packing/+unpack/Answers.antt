@@ -1,7 +1,7 @@
 -- A group's numbers are those of its members.
 use Rattle.std.proofs.Common.{◌≡◌, IfOk, map, sym, subst}
 use Rattle.nxt_types.specs.Shapes.{cluster_of, tree}
-use Rattle.nxt_space.proofs.GroupTree.{group_tree}
+use Rattle.nxt_types.proofs.Laws.Trees.{group_tree}
 use Rattle.nxt_texts.specs.Packing.{Unpacks}
 use Rattle.nxt_texts.proofs.packing.+unpack.Goals as goal
 

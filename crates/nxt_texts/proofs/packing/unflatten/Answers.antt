@@ -1,7 +1,7 @@
 -- Either value can be stored, and the error tells which it is.
 use Rattle.std.proofs.Common.{◌∙◌}
 use Rattle.nxt_texts.specs.Texts.{text_at}
-use Rattle.nxt_operands.proofs.Stored.{copy_storable}
+use Rattle.nxt_operands.proofs.Laws.Stored.{copy_storable}
 use Rattle.nxt_texts.proofs.Telling.{found_there, none_there, unpacked_storable, unflatten_found, unflatten_short}
 use Rattle.nxt_texts.proofs.packing.unflatten.Goals as goal
 

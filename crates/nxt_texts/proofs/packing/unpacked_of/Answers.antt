@@ -2,7 +2,7 @@
 use Rattle.std.proofs.Common.{sym}
 use Rattle.nxt_types.specs.Shapes.{tree}
 use Rattle.nxt_space.specs.Variables.{name_of, shape_of}
-use Rattle.nxt_operands.proofs.Told.{told}
+use Rattle.nxt_operands.proofs.Laws.Shapes.{told}
 use Rattle.nxt_texts.proofs.PackedValues.{flat_unpacked}
 use Rattle.nxt_texts.proofs.packing.unpacked_of.Goals as goal
 

@@ -8,8 +8,8 @@ use Rattle.nxt_model.specs.Means.Text.{body, ended}
 use Rattle.nxt_model.specs.Values.{byte_list, stored}
 use Rattle.nxt_space.specs.Variables.{Variables, shape_of, with_value}
 use Rattle.nxt_operands.specs.Operands.{Done, given}
-use Rattle.nxt_operands.proofs.Meant.{given_stored}
-use Rattle.nxt_operands.proofs.Refused.{passed_on}
+use Rattle.nxt_operands.proofs.Laws.OneStored.{given_stored}
+use Rattle.nxt_operands.proofs.Laws.Refusals.{passed_on}
 use Rattle.nxt_texts.specs.Texts.{StoresBytes, bodies_at}
 use Rattle.nxt_texts.proofs.Texts.{stride_there, bytes_countable, bytes_size}
 use Rattle.nxt_texts.proofs.strings.concatenate.Goals as goal

@@ -1,6 +1,6 @@
 -- The list takes one block, and the entry's stride is small.
 use Rattle.nxt_model.specs.Values.{byte_list}
-use Rattle.nxt_operands.proofs.Meant.{spelled_given}
+use Rattle.nxt_operands.proofs.Laws.OneStored.{spelled_given}
 use Rattle.nxt_texts.proofs.Texts.{bytes_storable}
 use Rattle.nxt_texts.proofs.text.store_bytes.Goals as goal
 

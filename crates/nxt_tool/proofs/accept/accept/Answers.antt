@@ -1,6 +1,6 @@
 -- The image of the program is that of the file.
 use Rattle.nxt_tool.specs.Plain.{image_in}
-use Rattle.nxt_tool.proofs.Judging.{judged_run}
+use Rattle.nxt_tool.proofs.FromFile.Parts.{judged_run}
 use Rattle.nxt_tool.proofs.accept.accept.Goals as goal
 
 pub returns-clause-made : goal.returns-clause-made

@@ -1,7 +1,7 @@
 -- The footprint of a judged file is that of its start.
 use Rattle.std.proofs.Common.{sym, subst}
 use Rattle.nxt_tool.specs.Accepted.{IsSound}
-use Rattle.nxt_tool.proofs.Judging.{judged_sound}
+use Rattle.nxt_tool.proofs.FromFile.Parts.{judged_sound}
 use Rattle.nxt_tool.proofs.accept.check.Goals as goal
 
 pub returns : goal.returns

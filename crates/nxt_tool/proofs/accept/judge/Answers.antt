@@ -10,7 +10,7 @@ use Rattle.nxt_code.specs.CodeRules.{program, Broken, rank}
 use Rattle.nxt_code.specs.Decoding.{IsDecoded}
 use Rattle.nxt_code.specs.declared.fault.CodeFault.TheVariants.{NoMemory}
 use Rattle.nxt_tool.specs.Accepted.{code_in}
-use Rattle.nxt_tool.proofs.Faults.{layout_cause, code_cause, handed_on}
+use Rattle.nxt_tool.proofs.FromFile.Faults.{layout_cause, code_cause, handed_on}
 use Rattle.nxt_tool.proofs.accept.judge.Goals as goal
 
 abbrev sections_of : Parts → CodeSections

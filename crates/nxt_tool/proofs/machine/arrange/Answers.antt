@@ -5,14 +5,14 @@ use Rattle.nxt_model.specs.Devices.{at_start}
 use Rattle.nxt_model.specs.declared.line.Stop.TheVariants.{Memory}
 use Rattle.nxt_model.specs.Step.{stop}
 use Rattle.nxt_operands.specs.Operands.{Done}
-use Rattle.nxt_code.proofs.FitStatements.{placed_at}
+use Rattle.nxt_code.proofs.Laws.FitStatements.{placed_at}
 use Rattle.nxt_arrays.specs.Arrays.{CanRun, values_after}
 use Rattle.nxt_space.specs.Outcomes.{Does}
 use Rattle.nxt_space.specs.declared.fault.OpFault.TheVariants.{PoolPassed}
 use Rattle.nxt_tool.specs.Plain.{devices_of, state_of}
 use Rattle.nxt_tool.specs.Stepping.{turn_after}
-use Rattle.nxt_tool.proofs.Computed.{still_program, same_image, whole_there}
-use Rattle.nxt_tool.proofs.OnLists.{moved, was_refused}
+use Rattle.nxt_tool.proofs.Bytecodes.Computed.{still_program, same_image, whole_there}
+use Rattle.nxt_tool.proofs.Bytecodes.OnLists.{moved, was_refused}
 use Rattle.nxt_tool.proofs.machine.arrange.Goals as goal
 
 pub run_array-requires : goal.run_array-requires

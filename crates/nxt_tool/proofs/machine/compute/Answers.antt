@@ -11,7 +11,7 @@ use Rattle.nxt_model.specs.Devices.{at_start}
 use Rattle.nxt_ops.specs.Ops.{statement_in, next_of}
 use Rattle.nxt_ops.specs.declared.run.Next.TheVariants.{Jump}
 use Rattle.nxt_tool.specs.Plain.{devices_of, state_of}
-use Rattle.nxt_tool.proofs.Computed.{statement_there, Tells, fell, jumped, was_refused, still_program, same_image}
+use Rattle.nxt_tool.proofs.Bytecodes.Computed.{statement_there, Tells, fell, jumped, was_refused, still_program, same_image}
 use Rattle.nxt_tool.proofs.machine.compute.Goals as goal
 
 pub run_op-requires : goal.run_op-requires

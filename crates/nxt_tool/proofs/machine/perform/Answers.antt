@@ -3,25 +3,25 @@ use Rattle.std.proofs.Common.{◌≡◌, ℕ, ◌+◌, true, false, ◌∷◌, s
 use Rattle.std.specs.Prelude.{slice_get, slice_range, drop}
 use Rattle.nxt_types.specs.Statements.{Statement, statements, statement_of}
 use Rattle.nxt_code.specs.Decoding.{placed_of}
-use Rattle.nxt_code.specs.declared.statements.Placed.{Placed}
+use Rattle.nxt_code.specs.declared.statements.StatementAt.{StatementAt}
 use Rattle.nxt_model.specs.Means.Effects.{Effect}
 use Rattle.nxt_model.specs.Step.{stepped}
-use Rattle.nxt_code.proofs.FitStatements.{placed_at}
-use Rattle.nxt_tool.specs.First.{is_built}
+use Rattle.nxt_code.proofs.Laws.FitStatements.{placed_at}
+use Rattle.nxt_tool.specs.RunsToday.{is_built}
 use Rattle.nxt_tool.specs.Numbers.{number_at, motors_after, lines_after}
 use Rattle.nxt_tool.specs.Plain.{IsProgram, state_of}
 use Rattle.nxt_tool.specs.Stepping.{turn_after}
 use Rattle.nxt_tool.specs.declared.program.Program.{Program}
-use Rattle.nxt_tool.proofs.Built.{built_at, computes_there, stop_is, finish_is, setout_is, port_named}
-use Rattle.nxt_tool.proofs.Motors.{setout_after}
-use Rattle.nxt_tool.proofs.OnSpace.{stop_step, finish_step, set_out}
+use Rattle.nxt_tool.proofs.Bytecodes.Statements.{built_at, computes_there, stop_is, finish_is, setout_is, port_named}
+use Rattle.nxt_tool.proofs.Bytecodes.Motors.{setout_after}
+use Rattle.nxt_tool.proofs.Bytecodes.OnSpace.{stop_step, finish_step, set_out}
 use Rattle.nxt_tool.proofs.machine.perform.Goals as goal
 
 -- the decoded statement is the one of the words, and it runs
-there : (p : Program) → IsProgram p → (place : ℕ) (x : Placed) → slice_get p.code.decoded.placed.items place ≡ Some x → slice_get (statements p.code.words) place ≡ Some (placed_of p.code.words x)
+there : (p : Program) → IsProgram p → (place : ℕ) (x : StatementAt) → slice_get p.code.decoded.placed.items place ≡ Some x → slice_get (statements p.code.words) place ≡ Some (placed_of p.code.words x)
 there p is place x at = placed_at p.code.words p.code.decoded is.code place x at
 
-built : (p : Program) → IsProgram p → (place : ℕ) (x : Placed) → slice_get p.code.decoded.placed.items place ≡ Some x → is_built p.space.shapes (statement_of x.instr p.code.words) ≡ true
+built : (p : Program) → IsProgram p → (place : ℕ) (x : StatementAt) → slice_get p.code.decoded.placed.items place ≡ Some x → is_built p.space.shapes (statement_of x.instr p.code.words) ≡ true
 built p is place x at = built_at p.space.shapes (statements p.code.words) place (placed_of p.code.words x) is.built (there p is place x at)
 
 pub compute-requires : goal.compute-requires

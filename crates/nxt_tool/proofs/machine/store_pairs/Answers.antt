@@ -2,7 +2,7 @@ use Rattle.std.proofs.Common.{◌≡◌, ◌+◌, sym, ap, ap₂, ◌∙◌, ari
 use Rattle.nxt_types.specs.Statements.{statement_of}
 use Rattle.nxt_model.specs.Devices.{set_property}
 use Rattle.nxt_tool.specs.Numbers.{number_at, with_pairs}
-use Rattle.nxt_tool.proofs.Named.{pairs_more, pairs_done}
+use Rattle.nxt_tool.proofs.Bytecodes.Named.{pairs_more, pairs_done}
 use Rattle.nxt_tool.proofs.machine.store_pairs.Goals as goal
 
 pub loop-k-preserved : goal.loop-k-preserved

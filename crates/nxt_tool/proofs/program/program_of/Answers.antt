@@ -11,13 +11,13 @@ use Rattle.nxt_layout.specs.Layouts.{FileLayout}
 use Rattle.nxt_space.specs.Variables.{Variables}
 use Rattle.nxt_code.specs.Decoding.{IsDecoded}
 use Rattle.nxt_code.specs.declared.code.Code.{Code}
-use Rattle.nxt_code.specs.declared.statements.Placed.{Placed}
-use Rattle.nxt_code.proofs.FitStatements.{all_fit}
-use Rattle.nxt_tool.specs.First.{is_only_clump, is_built, are_built}
+use Rattle.nxt_code.specs.declared.statements.StatementAt.{StatementAt}
+use Rattle.nxt_code.proofs.Laws.FitStatements.{all_fit}
+use Rattle.nxt_tool.specs.RunsToday.{is_only_clump, is_built, are_built}
 use Rattle.nxt_tool.specs.Accepted.{IsJudged}
 use Rattle.nxt_tool.specs.Plain.{AllFit}
-use Rattle.nxt_tool.proofs.Built.{decoded_built}
-use Rattle.nxt_tool.proofs.Making.{made_runs, made_image, none_bad}
+use Rattle.nxt_tool.proofs.Bytecodes.Statements.{decoded_built}
+use Rattle.nxt_tool.proofs.FromFile.Program.{made_runs, made_image, none_bad}
 use Rattle.nxt_tool.proofs.program.program_of.Goals as goal
 use Rattle.nxt_tool.proofs.program.program_of.Goals.{then-not-is_only_clump-via-then-not-is_only_clump, then-not-is_only_clump-via-else-not-is_only_clump+then-not-all_run}
 
@@ -26,9 +26,9 @@ only c p j = ap is_only_clump (sym j.clumps ∙ sym c.as_slice.ensures) ∙ sym 
 
 -- the test of the decoded statements is that of the code's
 tested : (p : Parts) (l : FileLayout) (code : Code) (ss : Members) → IsJudged p l code → ss ≡ l.shapes →
-    list_all (λ (x : Placed). is_built ss (statement_of x.instr [])) code.decoded.placed.items ≡ are_built l.shapes (statements p.code)
+    list_all (λ (x : StatementAt). is_built ss (statement_of x.instr [])) code.decoded.placed.items ≡ are_built l.shapes (statements p.code)
 tested p l code ss j same =
-    ap (λ ts. list_all (λ (x : Placed). is_built ts (statement_of x.instr [])) code.decoded.placed.items) same ∙ decoded_built l.shapes p.code code.decoded j.decoded
+    ap (λ ts. list_all (λ (x : StatementAt). is_built ts (statement_of x.instr [])) code.decoded.placed.items) same ∙ decoded_built l.shapes p.code code.decoded j.decoded
 
 built : (c : goal.After-into_toc) (p : Parts) → IsJudged p c.args.layout c.args.code → are_built c.args.layout.shapes (statements p.code) ≡ true
 built c p j = sym (tested p c.args.layout c.args.code _ j (ap (λ (t : Table). t.shapes) c.toc.ensures)) ∙ sym c.if-not-all_run.ensures

@@ -1,8 +1,8 @@
 use Rattle.std.proofs.Common.{sym, ◌∙◌, ap, arith, refl}
 use Rattle.nxt_model.specs.Report.{Bad, Whole}
 use Rattle.nxt_tool.specs.Rows.{Given}
-use Rattle.nxt_tool.proofs.Wrote.{Wrote-more, Wrote-part}
-use Rattle.nxt_tool.proofs.Runs.{report_row, report_end, Rose-later}
+use Rattle.nxt_tool.proofs.Reports.Pieces.{Wrote-more, Wrote-part}
+use Rattle.nxt_tool.proofs.Bytecodes.Runs.{report_row, report_end, Rose-later}
 use Rattle.nxt_tool.proofs.running.run_script.Goals as goal
 
 pub loop-row-preserved : goal.loop-row-preserved

@@ -1,5 +1,5 @@
 use Rattle.std.proofs.Common.{ap}
-use Rattle.nxt_rows.proofs.FreeRows.{free_rows-none, IsFreeChain-none}
+use Rattle.nxt_rows.proofs.Laws.FreeRows.{free_rows-none, IsFreeChain-none}
 use Rattle.nxt_trials.proofs.dope.a_freed_row_is_taken_again.Goals as goal
 
 pub take_row-requires-clause-chain : goal.take_row-requires-clause-chain

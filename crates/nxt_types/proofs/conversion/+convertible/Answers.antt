@@ -2,7 +2,7 @@
 use Rattle.std.proofs.Common.{◌≡◌, ◌≢◌, ◌∙◌, List, [], ◌∷◌, length, suc, Bool, true, false, ◌&&◌, ap, sym, refl, map}
 use Rattle.std.proofs.lemmas.List.{length-map}
 use Rattle.nxt_types.specs.Shapes.{Shape, tree, members, cluster_of, convertible, convertible_members}
-use Rattle.nxt_types.proofs.TreeLemmas.{trees_hidden}
+use Rattle.nxt_types.proofs.Laws.Trees.{trees_hidden}
 use Rattle.nxt_types.proofs.conversion.+convertible.Goals as goal
 
 both_false : (b c : Bool) → false ≡ c → false ≡ (b && c)

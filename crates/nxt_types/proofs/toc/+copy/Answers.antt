@@ -1,7 +1,7 @@
 -- A group's copy has the copies of its members.
 use Rattle.std.proofs.Common.{◌∙◌, ap, sym, map}
 use Rattle.nxt_types.specs.Shapes.{tree, cluster_of}
-use Rattle.nxt_types.proofs.TreeLemmas.{trees_hidden}
+use Rattle.nxt_types.proofs.Laws.Trees.{trees_hidden}
 use Rattle.nxt_types.proofs.toc.+copy.Goals as goal
 
 pub copy_of-returns-in_ok-members-in-Group : goal.copy_of-returns-in_ok-members-in-Group

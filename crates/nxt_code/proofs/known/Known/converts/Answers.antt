@@ -1,8 +1,8 @@
 -- What is found of the two is kept.
 use Rattle.std.proofs.Common.{◌≡◌, rules}
 use Rattle.nxt_types.specs.Shapes.{convertible}
-use Rattle.nxt_code.specs.Known.{shape_by}
-use Rattle.nxt_code.proofs.Answered.{pairs_more}
+use Rattle.nxt_code.specs.Inside.KnownShapes.{shape_by}
+use Rattle.nxt_code.proofs.Arguments.KnownShapes.{pairs_more}
 use Rattle.nxt_code.proofs.known.Known.converts.Goals as goal
 
 pub returns-clause-known : goal.returns-clause-known

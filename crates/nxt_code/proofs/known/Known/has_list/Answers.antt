@@ -1,8 +1,8 @@
 -- What is found of the shape is kept.
 use Rattle.std.proofs.Common.{◌≡◌, rules}
 use Rattle.nxt_types.specs.Shapes.{has_list}
-use Rattle.nxt_code.specs.Known.{shape_by}
-use Rattle.nxt_code.proofs.Answered.{words_more}
+use Rattle.nxt_code.specs.Inside.KnownShapes.{shape_by}
+use Rattle.nxt_code.proofs.Arguments.KnownShapes.{words_more}
 use Rattle.nxt_code.proofs.known.Known.has_list.Goals as goal
 
 pub returns-clause-known : goal.returns-clause-known

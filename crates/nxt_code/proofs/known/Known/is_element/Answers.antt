@@ -2,8 +2,8 @@
 use Rattle.std.proofs.Common.{◌≡◌, rules}
 use Rattle.nxt_types.specs.Shapes.{convertible}
 use Rattle.nxt_types.specs.OperandRules.{element_of}
-use Rattle.nxt_code.specs.Known.{shape_by}
-use Rattle.nxt_code.proofs.Answered.{pairs_more}
+use Rattle.nxt_code.specs.Inside.KnownShapes.{shape_by}
+use Rattle.nxt_code.proofs.Arguments.KnownShapes.{pairs_more}
 use Rattle.nxt_code.proofs.known.Known.is_element.Goals as goal
 
 pub returns-clause-known : goal.returns-clause-known

@@ -1,6 +1,6 @@
 use Rattle.std.proofs.Common.{◌∙◌, ◌+◌, take, drop, ◌++◌, [], ap, sym}
 use Rattle.std.proofs.lemmas.List.{drop-drop}
-use Rattle.nxt_edge.proofs.Known.{drop_step, rest_is}
+use Rattle.nxt_edge.proofs.Laws.{drop_step, rest_is}
 use Rattle.nxt_edge.proofs.mem.MemSourceSource.read.Goals as goal
 
 pub returns-clause-bytes : goal.returns-clause-bytes

@@ -1,7 +1,7 @@
 use Rattle.std.proofs.Common.{◌∙◌, sym, ap}
 use Rattle.nxt_types.specs.Pool.{round4}
 use Rattle.nxt_heap.specs.Lists.{bytes_at, bytes_of}
-use Rattle.nxt_heap.proofs.Changes.{lives}
+use Rattle.nxt_heap.proofs.Lists.Changes.{lives}
 use Rattle.nxt_heap.proofs.heap.Heap.bytes_of.Goals as goal
 
 pub row_bytes-requires-clause-within : goal.row_bytes-requires-clause-within

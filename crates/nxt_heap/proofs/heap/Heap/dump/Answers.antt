@@ -3,10 +3,10 @@ use Rattle.std.proofs.lemmas.Grind.{common_steps}
 use Rattle.nxt_types.specs.Pool.{round4}
 use Rattle.nxt_heap.specs.Dumps.{HoldHeap}
 use Rattle.nxt_heap.specs.Lists.{footprint, table_of}
-use Rattle.nxt_heap.specs.Pool.{end_of}
-use Rattle.nxt_heap.proofs.Dumped.{holds-dump}
-use Rattle.nxt_heap.proofs.Dumping.{length-dump, state_of-dump}
-use Rattle.nxt_heap.proofs.Views.{footprint-state, length-static}
+use Rattle.nxt_heap.specs.Inside.Pool.{end_of}
+use Rattle.nxt_heap.proofs.Dumps.HoldsHeap.{holds-dump}
+use Rattle.nxt_heap.proofs.Dumps.Front.{length-dump, state_of-dump}
+use Rattle.nxt_heap.proofs.Lists.OfPool.{footprint-state, length-static}
 use Rattle.nxt_heap.proofs.heap.Heap.dump.Goals as goal
 
 front : (c : goal.In_ok-append) → c.append.new.self ≡ take (end_of c.self.inside.pool.items (round4 c.self.inside.static_size)) c.self.inside.pool.items

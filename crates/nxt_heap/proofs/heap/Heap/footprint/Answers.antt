@@ -1,6 +1,6 @@
 use Rattle.std.proofs.Common.{◌∙◌, sym, ap}
 use Rattle.nxt_heap.specs.Lists.{footprint}
-use Rattle.nxt_heap.proofs.Views.{footprint-state}
+use Rattle.nxt_heap.proofs.Lists.OfPool.{footprint-state}
 use Rattle.nxt_heap.proofs.heap.Heap.footprint.Goals as goal
 
 pub returns-clause-whole : goal.returns-clause-whole

@@ -2,9 +2,9 @@ use Rattle.std.proofs.Common.{◌∙◌, None, ap, arith, length}
 use Rattle.std.proofs.lemmas.List.{with_items_is}
 use Rattle.nxt_types.specs.Pool.{round4}
 use Rattle.nxt_heap.specs.Lists.{with_list}
-use Rattle.nxt_heap.specs.Pool.{row_block}
-use Rattle.nxt_heap.proofs.Changes.{Lives, lives, static-kept}
-use Rattle.nxt_heap.proofs.Places.{row_in_pool, block_ends}
+use Rattle.nxt_heap.specs.Inside.Pool.{row_block}
+use Rattle.nxt_heap.proofs.Lists.Changes.{Lives, lives, static-kept}
+use Rattle.nxt_heap.proofs.Pool.Places.{row_in_pool, block_ends}
 use Rattle.nxt_heap.proofs.heap.Heap.free_array.Goals as goal
 
 pub get-requires : goal.get-requires

@@ -1,7 +1,7 @@
 -- Row 0 is no list.
 use Rattle.std.proofs.Common.{None, ◌∙◌}
 use Rattle.nxt_types.specs.Pool.{round4}
-use Rattle.nxt_heap.proofs.Views.{lists_in-at, list_in-first}
+use Rattle.nxt_heap.proofs.Lists.OfPool.{lists_in-at, list_in-first}
 use Rattle.nxt_heap.proofs.heap.Heap.is_sound.Goals as goal
 
 pub returns : goal.returns

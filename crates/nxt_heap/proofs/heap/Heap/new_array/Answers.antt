@@ -2,9 +2,9 @@ use Rattle.std.proofs.Common.{◌≡◌, ◌∙◌, ap, arith, length}
 use Rattle.std.proofs.lemmas.List.{with_items_is}
 use Rattle.nxt_types.specs.Pool.{round4}
 use Rattle.nxt_heap.specs.Lists.{footprint, with_list, with_free_row, empty_list}
-use Rattle.nxt_heap.specs.Pool.{state_of, Takes, IsFull}
-use Rattle.nxt_heap.proofs.Changes.{static-kept, footprint-more, footprint-taken}
-use Rattle.nxt_heap.proofs.Views.{footprint-state}
+use Rattle.nxt_heap.specs.Inside.Pool.{state_of, Takes, IsFull}
+use Rattle.nxt_heap.proofs.Lists.Changes.{static-kept, footprint-more, footprint-taken}
+use Rattle.nxt_heap.proofs.Lists.OfPool.{footprint-state}
 use Rattle.nxt_heap.proofs.heap.Heap.new_array.Goals as goal
 
 takes : (c : goal.After-self-in-Ok-1)

@@ -3,10 +3,10 @@ use Rattle.std.proofs.lemmas.List.{with_items_is}
 use Rattle.std.specs.Vec.{with_items}
 use Rattle.nxt_types.specs.Pool.{round4}
 use Rattle.nxt_heap.specs.Lists.{footprint, with_length}
-use Rattle.nxt_heap.specs.Pool.{row_block, state_of}
-use Rattle.nxt_heap.proofs.Changes.{Lives, lives, static-kept, state-with_length, footprint-with_length}
-use Rattle.nxt_heap.proofs.Views.{footprint-state}
-use Rattle.nxt_heap.proofs.Places.{row_in_pool, block_ends}
+use Rattle.nxt_heap.specs.Inside.Pool.{row_block, state_of}
+use Rattle.nxt_heap.proofs.Lists.Changes.{Lives, lives, static-kept, state-with_length, footprint-with_length}
+use Rattle.nxt_heap.proofs.Lists.OfPool.{footprint-state}
+use Rattle.nxt_heap.proofs.Pool.Places.{row_in_pool, block_ends}
 use Rattle.nxt_heap.proofs.heap.Heap.resize.Goals as goal
 
 pub get-requires : goal.get-requires

@@ -1,7 +1,7 @@
 use Rattle.std.proofs.Common.{◌∙◌, sym, ap, length, arith}
 use Rattle.nxt_types.specs.Pool.{round4}
-use Rattle.nxt_heap.proofs.Views.{length-lists_in}
-use Rattle.nxt_heap.proofs.Places.{table_within}
+use Rattle.nxt_heap.proofs.Lists.OfPool.{length-lists_in}
+use Rattle.nxt_heap.proofs.Pool.Places.{table_within}
 use Rattle.nxt_heap.proofs.heap.Heap.row_count.Goals as goal
 
 pub get-requires : goal.get-requires

@@ -1,9 +1,9 @@
 use Rattle.std.proofs.Common.{◌∙◌, ◌<◌, sym, ap, length, arith, refl, set, length-set, get_or-set_other}
 use Rattle.std.proofs.Math.Seq.{take-set-lt}
 use Rattle.nxt_types.specs.Pool.{round4}
-use Rattle.nxt_heap.proofs.Views.{length-static}
-use Rattle.nxt_heap.proofs.Places.{le-round4}
-use Rattle.nxt_heap.proofs.Kept.{SameAbove, above_kept}
+use Rattle.nxt_heap.proofs.Lists.OfPool.{length-static}
+use Rattle.nxt_types.proofs.Laws.Pool.{le-round4}
+use Rattle.nxt_heap.proofs.Lists.Kept.{SameAbove, above_kept}
 use Rattle.nxt_heap.proofs.heap.Heap.set_byte.Goals as goal
 
 in_static : (c : goal.After-self-1) → c.args.at < c.self.inside.static_size

@@ -2,8 +2,8 @@ use Rattle.std.proofs.Common.{◌∙◌, ap, arith, length}
 use Rattle.std.proofs.lemmas.List.{with_items_is}
 use Rattle.nxt_types.specs.Pool.{round4}
 use Rattle.nxt_heap.specs.Lists.{with_byte, bytes_of}
-use Rattle.nxt_heap.proofs.Changes.{Lives, lives, static-kept, state-with_byte}
-use Rattle.nxt_heap.proofs.Places.{length-bytes}
+use Rattle.nxt_heap.proofs.Lists.Changes.{Lives, lives, static-kept, state-with_byte}
+use Rattle.nxt_heap.proofs.Pool.Places.{length-bytes}
 use Rattle.nxt_heap.proofs.heap.Heap.write.Goals as goal
 
 living : (c : goal.After-table_above) → Lives c.self.inside.pool.items (round4 c.self.inside.static_size) c.args.row

@@ -1,8 +1,8 @@
 -- The steps from the place, and those behind them.
 use Rattle.std.proofs.Common.{◌≡◌, ◌<◌, ◌≤◌, ◌*◌, ◌+◌, sym, ◌∙◌, subst, arith, slice_index}
 use Rattle.std.proofs.lemmas.List.{get_or_default, length-set}
-use Rattle.nxt_layout.specs.RowPasses.{times}
-use Rattle.nxt_layout.proofs.Walking.{full_further, full_set}
+use Rattle.nxt_layout.specs.Inside.RowPasses.{times}
+use Rattle.nxt_layout.proofs.Dope.Places.{full_further, full_set}
 use Rattle.nxt_layout.proofs.places.Places.full_from.Goals as goal
 
 pub returns-clause-full : goal.returns-clause-full

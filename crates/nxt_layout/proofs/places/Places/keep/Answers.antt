@@ -1,7 +1,7 @@
 -- The place is there once more.
 use Rattle.std.proofs.Common.{◌≡◌, ap, refl, ◌∙◌, arith, set, slice_index}
 use Rattle.std.proofs.lemmas.List.{get_or_default}
-use Rattle.nxt_layout.proofs.Walking.{walked_more}
+use Rattle.nxt_layout.proofs.Dope.Places.{walked_more}
 use Rattle.nxt_layout.proofs.places.Places.keep.Goals as goal
 
 pub returns-in_ok-push-clause-walked : goal.returns-in_ok-push-clause-walked

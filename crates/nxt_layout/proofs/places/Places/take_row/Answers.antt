@@ -1,8 +1,9 @@
 -- One element more is kept, or some that are there twice are stepped over.
 use Rattle.std.proofs.Common.{◌≡◌, ℕ, ◌<◌, ◌≤◌, ◌*◌, ◌+◌, ◌-◌, List, ap, ap₂, ◌∙◌, fold, arith}
-use Rattle.nxt_layout.specs.Rows.{row, places_from}
-use Rattle.nxt_layout.specs.RowPasses.{ground_of, keep_twice}
-use Rattle.nxt_layout.proofs.Walking.{stepped, stepped_one, same_end, small_step}
+use Rattle.nxt_layout.specs.Rows.{row}
+use Rattle.nxt_facts.specs.Places.{places_from}
+use Rattle.nxt_layout.specs.Inside.RowPasses.{ground_of, keep_twice}
+use Rattle.nxt_layout.proofs.Dope.Places.{stepped, stepped_one, same_end, small_step}
 use Rattle.nxt_layout.proofs.places.Places.take_row.Goals as goal
 
 pub loop-left-preserved-then-full-gt0 : goal.loop-left-preserved-then-full-gt0

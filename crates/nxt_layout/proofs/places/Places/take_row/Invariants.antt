@@ -1,8 +1,9 @@
 -- The elements that are taken and those that are left.
 use Rattle.std.proofs.Common.{◌≡◌, ◌≤◌, ◌*◌, ◌+◌, ◌-◌, fold, length}
-use Rattle.nxt_layout.specs.Rows.{row, row_end, elements_of, places_from}
-use Rattle.nxt_layout.specs.RowPasses.{ground_of, keep_twice}
-use Rattle.nxt_layout.specs.Known.{IsWalked}
+use Rattle.nxt_layout.specs.Rows.{row, row_end, elements_of}
+use Rattle.nxt_facts.specs.Places.{places_from}
+use Rattle.nxt_layout.specs.Inside.RowPasses.{ground_of, keep_twice}
+use Rattle.nxt_layout.specs.Inside.Known.{IsWalked}
 use Rattle.nxt_layout.proofs.places.Places.take_row.Given as goal
 
 abbrev pub invariant-loop-left : goal.invariant-loop-left

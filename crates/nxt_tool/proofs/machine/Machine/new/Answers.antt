@@ -3,7 +3,7 @@ use Rattle.std.proofs.Common.{◌∙◌, ap, ℤ, List, [], ◌∷◌}
 use Rattle.std.specs.Prelude.{pos, replicate, None}
 use Rattle.nxt_tool.specs.declared.program.Program.{Program}
 use Rattle.nxt_tool.specs.Plain.{Held, held, image_in, state_of}
-use Rattle.nxt_tool.proofs.OneClump.{start_held}
+use Rattle.nxt_tool.proofs.Bytecodes.AtStart.{start_held}
 use Rattle.nxt_tool.proofs.machine.Machine.new.Goals as goal
 
 -- a machine of a program with three motors

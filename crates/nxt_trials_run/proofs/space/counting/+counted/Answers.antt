@@ -1,10 +1,10 @@
 -- What is counted is the value's size.
 use Rattle.std.proofs.Common.{◌≡◌, IfSome, map, ap, sym, subst, arith}
 use Rattle.nxt_types.specs.Shapes.{tree, cluster_of}
-use Rattle.nxt_space.specs.Fills.{filled}
-use Rattle.nxt_space.specs.Sizes.{size_of_filled}
-use Rattle.nxt_space.proofs.GroupTree.{group_tree}
-use Rattle.nxt_space.proofs.Counting.{spelled_begin, spelled_next, spelled_added}
+use Rattle.nxt_values.specs.Fills.{filled}
+use Rattle.nxt_values.specs.Sizes.{size_of_filled}
+use Rattle.nxt_types.proofs.Laws.Trees.{group_tree}
+use Rattle.nxt_values.proofs.Laws.Sizes.{spelled_begin, spelled_next, spelled_added}
 use Rattle.nxt_trials_run.proofs.space.counting.+counted.Goals as goal
 
 -- ---- lists

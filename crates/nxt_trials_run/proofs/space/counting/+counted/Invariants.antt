@@ -2,9 +2,9 @@
 use Rattle.std.proofs.Common.{drop, map}
 use Rattle.nxt_types.specs.Shapes.{tree, members}
 use Rattle.nxt_types.specs.Names.{sizes}
-use Rattle.nxt_space.specs.Fills.{filled, all_filled}
-use Rattle.nxt_space.specs.Sizes.{size_of_filled, size_of_all_filled}
-use Rattle.nxt_space.proofs.Counting.{ElementsSpelled, MembersSpelled}
+use Rattle.nxt_values.specs.Fills.{filled, all_filled}
+use Rattle.nxt_values.specs.Sizes.{size_of_filled, size_of_all_filled}
+use Rattle.nxt_values.proofs.Laws.Sizes.{ElementsSpelled, MembersSpelled}
 use Rattle.nxt_trials_run.proofs.space.counting.+counted.Given as goal
 
 abbrev pub invariant-counted-loop : goal.invariant-counted-loop

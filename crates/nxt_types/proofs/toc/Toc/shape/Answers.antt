@@ -5,7 +5,7 @@ use Rattle.std.specs.Prelude.{slice_get}
 use Rattle.nxt_types.specs.Shapes.{tree}
 use Rattle.nxt_types.specs.Names.{name_among}
 use Rattle.nxt_types.specs.Tables.{Table}
-use Rattle.nxt_types.proofs.TableLemmas.{shape_there, copied_tree}
+use Rattle.nxt_types.proofs.Laws.Tables.{shape_there, copied_tree}
 use Rattle.nxt_types.proofs.toc.Toc.shape.Goals as goal
 
 pub returns-in_err-found : goal.returns-in_err-found

@@ -1,0 +1,9 @@
+pub mod Each
+pub mod Sums
+pub mod SumsBelow
+pub mod Taking
+pub mod Pairs
+pub mod Tests
+pub mod Either
+pub mod Least
+pub mod Places

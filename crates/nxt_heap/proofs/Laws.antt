@@ -1,0 +1,6 @@
+-- What the crates above may use: laws of the lists of a heap.
+
+-- A list of bytes cut or filled up with zeros.
+pub mod Lengths
+-- What a heap takes of the pool, where one list changes.
+pub mod Footprints

@@ -1,0 +1,68 @@
+-- What is found in the elements of rows, and kept for the next time.
+use Rattle.std.specs.Prelude.{ℕ, ◌+◌, ◌*◌, ◌<◌, ◌≤◌, ◌≡◌, ◌^◌, true, List, All, flat_map, length, slice_index, Some}
+use Rattle.std.specs.declared.alloc.Global.{Global}
+use Rattle.std.specs.declared.cmp.Ordering.{Ordering}
+use Rattle.std.specs.declared.collections.BTreeMap.{BTreeMap}
+use Rattle.std.specs.declared.rc.RcSlice.{RcSlice}
+use Rattle.std.specs.BTreeMap.{get}
+use Rattle.std.specs.Cmp.Lexicographic.{slice_cmp}
+use Rattle.std.specs.List.{list_any}
+use Rattle.std.specs.Ordering.{nat_cmp, ordering_then}
+use Rattle.std.specs.Rc.{rc_slice_items}
+use Rattle.nxt_layout.specs.declared.known.Found.{Found}
+use Rattle.nxt_layout.specs.declared.named_rows.NamedRows.{NamedRows}
+use Rattle.nxt_layout.specs.declared.places.Places.{Places}
+use Rattle.nxt_layout.specs.declared.reach.OpenArray.{OpenArray}
+use Rattle.nxt_layout.specs.Rows.{Ground, is_placed, is_beyond, read_by, elements_of}
+use Rattle.nxt_layout.specs.Inside.RowPasses.{times, ordered, rows_of, numbers_in}
+
+-- the rows lie in the dataspace
+abbrev pub ArePlaced : Ground → List ℕ → Type 0
+ArePlaced g rows = All (λ r. is_placed g r ≡ true) rows
+
+-- not many rows are read, and those lie in the dataspace
+pub record IsOpen (g : Ground) (o : OpenArray) : Type 0 where
+  pub few : length (rc_slice_items o.read) ≤ 2 ^ 17
+  pub placed : ArePlaced g (rc_slice_items o.read)
+
+-- the counts tell how often each place is among them, and steps lead over those that are twice
+pub record IsWalked (p : Places) : Type 0 where
+  pub count : length p.steps.items ≡ length p.times.items
+  pub counts : (q : ℕ) → q < length p.times.items → slice_index p.times.items q ≡ times q p.kept.items
+  pub full : (q k : ℕ) → q < length p.times.items → k < slice_index p.steps.items q → 2 ≤ times (q + k * p.stride) p.kept.items
+  pub small : All (λ q. q ≤ 65535 * 65535) p.kept.items
+
+-- these names of so many lists tell it, where an element takes so many bytes
+pub record IsToldBy (g : Ground) (bytes : ℕ) (n : NamedRows) (count : ℕ) (f : Found) : Type 0 where
+  pub rows : rc_slice_items f.rows ≡ ordered n.table_rows n.rows.items
+  pub read : rc_slice_items f.read ≡ read_by g bytes (ordered n.table_rows n.rows.items)
+  pub lists : f.lists ≡ count
+  pub beyond : f.beyond ≡ n.beyond
+
+-- the numbers at a place in the elements that stand at these places tell it
+pub record IsFoundIn (g : Ground) (place bytes : ℕ) (bases : List ℕ) (f : Found) : Type 0 where
+  pub rows : rc_slice_items f.rows ≡ rows_of g (numbers_in g place bases)
+  pub read : rc_slice_items f.read ≡ read_by g bytes (rows_of g (numbers_in g place bases))
+  pub lists : f.lists ≡ length bases
+  pub beyond : f.beyond ≡ list_any (is_beyond g) (numbers_in g place bases)
+  pub bound : f.lists ≤ 2 ^ 33
+  pub few : length (rc_slice_items f.read) ≤ 2 ^ 17
+
+pub record IsSame (a b : Found) : Type 0 where
+  pub rows : rc_slice_items b.rows ≡ rc_slice_items a.rows
+  pub read : rc_slice_items b.read ≡ rc_slice_items a.read
+  pub lists : b.lists ≡ a.lists
+  pub beyond : b.beyond ≡ a.beyond
+
+-- a place, the bytes of an element, and rows
+abbrev pub Key : Type 0
+Key = ℕ × ℕ × RcSlice ℕ Global
+
+abbrev pub key_cmp : Key → Key → Ordering
+key_cmp x y =
+    ordering_then (ordering_then (nat_cmp x.0 y.0) (nat_cmp x.1 y.1)) (slice_cmp nat_cmp (rc_slice_items x.2) (rc_slice_items y.2))
+
+-- what is kept is what the elements of the rows tell
+abbrev pub IsKnown : Ground → BTreeMap Key Found Global → Type 0
+IsKnown g known =
+    (k : Key) (f : Found) → get key_cmp known k ≡ Some f → IsFoundIn g k.0 k.1 (flat_map (elements_of g) (rc_slice_items k.2)) f

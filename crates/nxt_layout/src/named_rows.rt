@@ -1,0 +1,117 @@
+// The rows that the numbers of an array's lists name.
+
+ghost use Rattle.std.specs.Prelude.{◌≡◌, ◌<◌, ◌≤◌, ◌*◌, ◌^◌, ◌||◌, false, [], ◌∷◌, map, length, slice_index, nat_lt, All, IfOk, OnOk};
+ghost use Rattle.nxt_model.specs.Reading.{row_count};
+ghost use Rattle.nxt_layout.specs.Rows.{Ground};
+ghost use Rattle.nxt_layout.specs.Inside.RowPasses.{ground_of, keep_twice, numbers_in, listed, any_below, ordered as ordered_rows, IsCounted, Takes};
+
+use crate::dataspace::Dataspace;
+use nxt_types::NoMemory;
+use std::alloc::Global;
+
+/// The rows of a table that numbers name, each at most twice, how often each is among them, and whether a number is past
+/// the table's rows. A row that is named a third time tells nothing more.
+#[derive(Drop)]
+pub struct NamedRows {
+    table_rows: u16,
+    pub rows: Vec<u16>,
+    times: Vec<u8>,
+    pub beyond: bool,
+}
+
+impl NamedRows {
+    /// No names, of a table of so many rows.
+    pub fn new(alloc: Global, table_rows: u16) -> Result<NamedRows, NoMemory>
+        ensures table { IfOk result (λ n. n.table_rows ≡ table_rows) }
+        ensures rows { IfOk result (λ n. n.rows.items ≡ []) }
+        ensures beyond { IfOk result (λ n. n.beyond ≡ false) }
+        ensures counted { IfOk result IsCounted }
+    {
+        Ok(NamedRows {
+            table_rows,
+            rows: Vec::new(alloc),
+            times: vec![in alloc; 0u8; usize::from(table_rows)]?,
+            beyond: false,
+        })
+    }
+
+    /// Takes the numbers at a place in the elements that stand at these places.
+    pub fn take_at(&mut self, space: &Dataspace, places: &[u32], place: u32) -> Result<(), NoMemory>
+        requires place { place < 2 ^ 16 }
+        requires small { All (λ p. p ≤ 65535 * 65535) places.now }
+        requires table { self.old.table_rows ≡ row_count (ground_of space.now).memory }
+        requires counted { IsCounted self.old }
+        ensures { OnOk result (Takes (ground_of space.now) (numbers_in (ground_of space.now) place places.now) self.old self.new) }
+    {
+        for at in places {
+            self.take(space.number_at(*at + place))?;
+        }
+        Ok(())
+    }
+
+    /// Takes one number.
+    pub fn take(&mut self, number: u16) -> Result<(), NoMemory>
+        requires { IsCounted self.old }
+        ensures { (g : Ground) → self.old.table_rows ≡ row_count g.memory → OnOk result (Takes g (number ∷ []) self.old self.new) }
+    {
+        if number >= self.table_rows {
+            self.beyond = true;
+        } else if number > 0 {
+            self.keep(number)?;
+        }
+        Ok(())
+    }
+
+    fn keep(&mut self, row: u16) -> Result<(), NoMemory>
+        requires row { row < self.old.table_rows }
+        requires counted { IsCounted self.old }
+        ensures rows { OnOk result (self.new.rows.items ≡ keep_twice self.old.rows.items row) }
+        ensures beyond { OnOk result (self.new.beyond ≡ self.old.beyond) }
+        ensures table { OnOk result (self.new.table_rows ≡ self.old.table_rows) }
+        ensures counted { OnOk result (IsCounted self.new) }
+    {
+        let at = usize::from(row);
+        let times = self.times[at];
+        if times < 2 {
+            self.rows.push(row)?;
+            self.times[at] = times + 1;
+        }
+        Ok(())
+    }
+
+    /// The rows: in the order of naming, or of number where one is named twice.
+    pub fn ordered(self, alloc: Global) -> Result<Vec<u16>, NoMemory>
+        requires { IsCounted self }
+        ensures { IfOk result (λ rows. rows.items ≡ ordered_rows self.table_rows self.rows.items) }
+    {
+        if self.has_twice() {
+            self.in_order(alloc)
+        } else {
+            Ok(self.rows)
+        }
+    }
+
+    fn has_twice(&self) -> bool
+        requires { IsCounted self.now }
+        ensures { result ≡ any_below (λ r. nat_lt 1 (slice_index self.now.times.items r)) self.now.table_rows }
+    {
+        for row in 0..self.table_rows {
+            if self.times[usize::from(row)] > 1 {
+                return true;
+            }
+        }
+        false
+    }
+
+    fn in_order(&self, alloc: Global) -> Result<Vec<u16>, NoMemory>
+        requires { IsCounted self.now }
+        ensures { IfOk result (λ rows. rows.items ≡ listed (slice_index self.now.times.items) self.now.table_rows) }
+    {
+        let mut rows: Vec<u16> = Vec::new(alloc);
+        for row in 0..self.table_rows {
+            let end = rows.len() + usize::from(self.times[usize::from(row)]);
+            rows.resize(end, row)?;
+        }
+        Ok(rows)
+    }
+}

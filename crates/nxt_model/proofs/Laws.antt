@@ -1,0 +1,16 @@
+-- What the crates above may use: laws of the plain machine.
+
+-- Two programs whose statements do the same run alike.
+pub mod Alike
+-- A program of one clump: a statement that is no matter of clumps changes values, devices and the place alone.
+pub mod OneClump
+-- A pool reads as at most one list of values.
+pub mod Reading
+-- Laws of runs and reports.
+pub mod Reports
+-- Laws of values: lists of them, parts and flat forms.
+pub mod Values
+-- A value's flat form spells it alone.
+pub mod Flat
+-- Numbers that are read from bytes are of their kind.
+pub mod Numbers

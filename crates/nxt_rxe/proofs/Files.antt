@@ -1,0 +1,12 @@
+-- Files as bytes, and their parts.
+
+-- A file has at most one list of parts.
+pub mod OneList
+-- What is read is a file of its parts.
+pub mod Found
+-- What is written is a file of its parts.
+pub mod RoundTrip
+-- Sections that lie in the file.
+pub mod Sections
+-- Bytes as items one behind another.
+pub mod Items

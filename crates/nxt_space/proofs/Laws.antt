@@ -1,0 +1,12 @@
+-- What the crates above may use: laws of the variables.
+
+-- The size of the variables with another value for a part.
+pub mod PartSizes
+-- Sound variables are sound with a number stored in them.
+pub mod NumberSet
+-- Variables with another value for one of them.
+pub mod Variables
+-- What an entry names among members: a part of the first, or of those behind it.
+pub mod Members
+-- A number takes no bytes of a list.
+pub mod NoBytes

@@ -1,0 +1,14 @@
+-- Parts of the variables, by what an entry names.
+
+-- What an entry names is a part of the variables.
+pub mod Named
+-- What stands where a name leads.
+pub mod Standing
+-- A part is no larger than the whole.
+pub mod Bounds
+-- The variables that a heap keeps, with another value for one of them.
+pub mod Kept
+-- The variables with another value where an entry names one.
+pub mod Replaced
+-- Lists of bytes.
+pub mod ByteLists

@@ -1,0 +1,10 @@
+-- The variables at the start.
+
+-- A file that is accepted gives its variables at the start.
+pub mod OfFile
+-- Flat forms of what a file's memory reads as, element by element and member by member.
+pub mod FlatForms
+-- A heap without lists is filled with the variables of the start.
+pub mod Filled
+-- The variables of a table, one after another.
+pub mod Shapes

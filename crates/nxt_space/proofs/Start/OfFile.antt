@@ -1,0 +1,280 @@
+-- A file that is accepted gives its variables at the start.
+use Rattle.std.proofs.Common.{◌≡◌, ℕ, zero, suc, ◌+◌, ◌*◌, ◌^◌, ◌<◌, ◌≤◌, Bool, true, false, ◌&&◌, not, ◌==◌, nat_le, nat_lt, List, [], ◌∷◌, map, max, replicate, length, if◌then◌else◌, inl, inr, None, refl, sym, ap, ap₂, ◌∙◌, subst, arith, append-nil, ltb-true}
+use Rattle.std.specs.Prelude.{ℤ}
+use Rattle.std.specs.List.{list_all}
+use Rattle.std.proofs.Math.Nat.{le-max_left, le-max_right}
+use Rattle.std.proofs.lemmas.Bool.{and_parts, and_from, cases_lt}
+use Rattle.std.proofs.lemmas.List.{length-replicate}
+use Rattle.nxt_types.specs.Names.{size, sizes}
+use Rattle.nxt_types.specs.Shapes.{Shape, Void, Number, Array, Cluster, Mutex, Members, no_members, member, members, tree, some_list, SpellsAll}
+use Rattle.nxt_types.specs.declared.shape.Shape as seen
+use Rattle.nxt_types.specs.Tables.{Table}
+use Rattle.nxt_rxe.specs.declared.parts.Parts.{Parts}
+use Rattle.nxt_model.specs.Values.{Value, GroupOf, values, items, elements, flats, is_of, are_of, lists_in}
+use Rattle.nxt_model.specs.Footprint.{footprint, rows_for}
+use Rattle.nxt_types.specs.Pool.{round4, pool_size}
+use Rattle.nxt_model.specs.Reading.{Memory, HeldList, EachReads, RowReads, Reads, MembersRead, ReadsAs, leaf_place, row_count, u16_in}
+use Rattle.nxt_model.proofs.Laws.Values.{items-values}
+use Rattle.nxt_layout.specs.declared.fault.LayoutFault.TheVariants.{RowZero, PoolPassed}
+use Rattle.nxt_layout.specs.Start.{memory, ground, stride_of, HasShapes, StartsAs, file_rows, start_footprint}
+use Rattle.nxt_table.specs.Leaves.{AreShapes}
+use Rattle.nxt_layout.specs.Rows.{row}
+use Rattle.nxt_layout.specs.LayoutRules.{Broken, has_table, PassesPool}
+use Rattle.nxt_layout.specs.Layouts.{FileLayout, layout_of, IsLayout}
+use Rattle.nxt_table.proofs.Laws.StrideFree.{size_of_table}
+use Rattle.nxt_layout.proofs.Laws.Rows.{same_rows}
+use Rattle.nxt_heap.specs.Lists.{Lists, zero_heap}
+use Rattle.nxt_space.specs.Inside.Starts.{memory_of}
+use Rattle.nxt_model.specs.Spots.{HasSpots}
+use Rattle.nxt_values.specs.Sizes.{IsCountable, size_of_all_filled}
+use Rattle.nxt_space.specs.Inside.Kept.{values_of, variables_in, started_as, rows_with, Stores, CanStart, IsKept}
+use Rattle.nxt_space.specs.Variables.{Variables, at_start}
+use Rattle.nxt_layout.proofs.Laws.Spots.{accepted_spots}
+use Rattle.nxt_values.proofs.Laws.Begun.{none_alive}
+use Rattle.nxt_values.proofs.Laws.Filled.{all_own}
+use Rattle.nxt_model.proofs.Laws.Numbers.{number_of_kind}
+
+-- ---- what a memory reads as is of its shape
+
+abbrev AreOf : (ℕ → Value → List HeldList → Type 0) → (Value → Bool) → Type 0
+AreOf reads of = (place : ℕ) (v : Value) (ls : List HeldList) → reads place v ls → of v ≡ true
+
+each_of : (reads : ℕ → Value → List HeldList → Type 0) (of : Value → Bool) → AreOf reads of → (place stride : ℕ) (vs : List Value) (ls : List HeldList) → EachReads reads place stride vs ls → list_all of vs ≡ true
+each_of reads of h place stride [] ls e = refl
+each_of reads of h place stride (v ∷ vs) ls e =
+    and_from (of v) (list_all of vs) (h place v e.0 e.3) (each_of reads of h (place + stride) stride vs e.1 e.4)
+
+row_of : (m : Memory) (reads : ℕ → Value → List HeldList → Type 0) (of : Value → Bool) → AreOf reads of → (stride r : ℕ) (vs : List Value) (ls : List HeldList) → RowReads m reads stride r vs ls → list_all of vs ≡ true
+row_of m reads of h stride zero vs ls e = ap (list_all of) e.0
+row_of m reads of h stride (suc r) vs ls e = each_of reads of h _ _ vs e.0 e.4
+
+mutual
+  read_of : (m : Memory) (i : ℕ) (s : Shape) → AreOf (Reads m i s) (is_of s)
+  read_of m i Void base v ls e = ap (is_of Void) e.0
+  read_of m i (Number k) base v ls e = ap (is_of (Number k)) e.1 ∙ number_of_kind k _
+  read_of m i (Array stride s) base v ls e =
+      ap (is_of (Array stride s)) e.1
+      ∙ ap (list_all (is_of s)) (items-values (elements v))
+      ∙ row_of m (Reads m (i + 1) s) (is_of s) (read_of m (i + 1) s) stride (u16_in m.bytes (leaf_place m i base)) (elements v) ls e.2
+  read_of m i (Cluster ss) base v ls e =
+      ap (is_of (Cluster ss)) e.0
+      ∙ ap (are_of ss) (items-values (elements v))
+      ∙ members_of m (i + 1) ss base (elements v) ls e.1
+  read_of m i Mutex base v ls e = ap (is_of Mutex) e.0
+
+  members_of : (m : Memory) (i : ℕ) (ss : Members) (base : ℕ) (vs : List Value) (ls : List HeldList) → MembersRead m i ss base vs ls → are_of ss vs ≡ true
+  members_of m i no_members base vs ls e = ap (are_of no_members) e.0
+  members_of m i (member s ss) base [] ls e = absurd e
+  members_of m i (member s ss) base (v ∷ vs) ls e =
+      and_from (is_of s v) (are_of ss vs) (read_of m i s base v e.0 e.3) (members_of m (i + size s) ss base vs e.1 e.4)
+
+-- so the flat forms of what a memory reads as give the values back
+read_back : (m : Memory) (ss : Members) (vars : Value) (ls : List HeldList) → ReadsAs m ss vars ls → started_as ss (flats (values (elements vars))) ≡ vars
+read_back m ss vars ls e =
+    let vs = values (elements vars) in
+    let own : are_of ss (items vs) ≡ true = ap (are_of ss) (items-values (elements vars)) ∙ members_of m 0 ss 0 (elements vars) ls e.variables in
+    ap (λ zs. started_as ss zs) (sym (append-nil (flats vs)))
+    ∙ ap (λ found. GroupOf found.0) (all_own ss vs [] own)
+    ∙ sym e.values
+
+-- ---- what an accepted file's layout tells
+
+-- the leaves have their spots, there is a row, the dataspace reads as the values, and the pool holds them
+record Begins (l : FileLayout) (vars : Value) : Type 0 where
+  spots : HasSpots l.entries l.shapes l.static_size
+  some : 1 ≤ l.rows
+  lists : List HeldList
+  reads : ReadsAs (memory_of l) l.shapes vars lists
+  fits : footprint l.static_size (rows_for l.rows (lists_in vars)) l.shapes vars ≤ pool_size
+
+-- the fourth of five tests
+fourth : (a b c d e : Bool) → (a && b && c && d && e) ≡ true → d ≡ true
+fourth a b c d e h = (and_parts (a && b && c) d (and_parts (a && b && c && d) e h).0).1
+
+plain_rows : (p : Parts) (plain : Members) → AreShapes p.toc plain → (Broken p RowZero → ⊥) → (some : Bool) → some_list plain ≡ some → 1 ≤ (if some then row_count (memory p plain) else 1)
+plain_rows p plain shapes rule false e = omega arith
+plain_rows p plain shapes rule true e = at (has_table p.header (ground p plain)) refl
+  where
+    at : (has : Bool) → has_table p.header (ground p plain) ≡ has → 1 ≤ row_count (memory p plain)
+    at true h =
+        let n = row_count (memory p plain) in
+        let some : nat_lt 0 n ≡ true = fourth (nat_le p.header.static_size p.header.dope_at) (nat_le (p.header.dope_at + 10) p.header.initial) ((row (ground p plain) 0).stride == 10) (nat_lt 0 n) (nat_le (p.header.dope_at + 10 * n) p.header.initial) h in
+        ltb-true 0 n some
+    at false h = absurd (rule (plain, shapes, ap₂ (λ a b. a && not b) e h))
+
+rows_some : (p : Parts) (ss : Members) → (Broken p RowZero → ⊥) → HasShapes p ss → 1 ≤ file_rows p ss
+rows_some p ss rule has =
+    subst
+    (λ qs. 1 ≤ file_rows p qs)
+    (sym has.strides)
+    (subst
+    (λ n. 1 ≤ n)
+    (sym (same_rows p (stride_of (ground p has.plain)) has.plain has.shapes))
+    (plain_rows p has.plain has.shapes rule (some_list has.plain) refl))
+
+pool_holds : (p : Parts) (ss : Members) (vars : Value) → ((n : ℕ) → Broken p (PoolPassed n) → ⊥) → StartsAs p ss vars → start_footprint p ss vars ≤ pool_size
+pool_holds p ss vars rule starts =
+    elim (cases_lt pool_size (start_footprint p ss vars)) [
+      | inl more ↦
+          let passed : PassesPool p (start_footprint p ss vars) = record { shapes = ss; vars = vars; starts = starts; size_is = refl; passed = more } in
+          absurd (rule (start_footprint p ss vars) passed)
+      | inr less ↦ less
+    ]
+
+begins : (p : Parts) (l : FileLayout) (made : IsLayout p l) → Begins l made.vars
+begins p l made =
+    let ss = made.shapes in
+    let vars = made.vars in
+    let starts = made.starts in
+    let told : Begins (layout_of p ss vars) vars = record {
+      spots = accepted_spots p ss made.accepted starts.shapes;
+      some = rows_some p ss (made.accepted RowZero) starts.shapes;
+      lists = starts.lists;
+      reads = starts.reads;
+      fits = pool_holds p ss vars (λ n. made.accepted (PoolPassed n)) starts;
+    } in
+    subst (λ k. Begins k vars) (sym made.layout) told
+
+-- ---- the table, and the numbers of the start
+
+abbrev pub table_of : FileLayout → Table
+table_of l = record { entries = l.entries; shapes = l.shapes }
+
+-- some file has the layout
+abbrev pub HasFile : FileLayout → Type 0
+HasFile l = (p : Parts) × IsLayout p l
+
+-- the numbers are the flat forms of what the dataspace reads as
+abbrev pub IsStart : FileLayout → Members → List ℤ → Type 0
+IsStart l ss start = (vars : Value) (lists : List HeldList) → ReadsAs (memory_of l) ss vars lists → start ≡ flats (values (elements vars))
+
+pub same_trees : {xs ys : List seen.Shape} {ss : Members} → xs ≡ ys → members (map tree ys) ≡ ss → members (map tree xs) ≡ ss
+same_trees e shapes = ap (λ zs. members (map tree zs)) e ∙ shapes
+
+-- the shapes have no more entries than the table
+pub sizes_small : {t toc : Table} (l : FileLayout) → HasFile l → t ≡ toc → length t.entries < 2 ^ 16 → toc ≡ table_of l → sizes toc.shapes < 2 ^ 16
+sizes_small {t} l file same few table =
+    let b = begins file.0 l file.1 in
+    let spelled : SpellsAll t.entries t.shapes = subst (λ (u : Table). SpellsAll u.entries u.shapes) (sym (same ∙ table)) b.reads.spelled in
+    omega (arith, few, size_of_table t.entries t.shapes spelled, ap (λ (u : Table). sizes u.shapes) same)
+
+pub started : {toc : Table} {ss : Members} {start : List ℤ} (p : Parts) (l : FileLayout) (made : IsLayout p l) → toc ≡ table_of l → ss ≡ toc.shapes → IsStart l ss start → started_as toc.shapes start ≡ made.vars
+started {toc} {ss} {start} p l made table shapes told =
+    let b = begins p l made in
+    let m = memory_of l in
+    let all : ss ≡ l.shapes = shapes ∙ ap (λ (u : Table). u.shapes) table in
+    let reads : ReadsAs m ss made.vars b.lists = subst (λ ts. ReadsAs m ts made.vars b.lists) (sym all) b.reads in
+    subst
+    (λ ts. started_as ts start ≡ made.vars)
+    shapes
+    (ap (started_as ss) (told made.vars b.lists reads) ∙ read_back m ss made.vars b.lists reads)
+
+-- the table has the spots of the variables that the numbers spell, and the pool holds them
+pub record Starting (toc : Table) (static_size rows : ℕ) (start : List ℤ) : Type 0 where
+  pub entries : length toc.entries < 2 ^ 16
+  pub spelled : SpellsAll toc.entries toc.shapes
+  pub spots : HasSpots toc.entries toc.shapes static_size
+  pub some : 1 ≤ rows
+  pub fits : footprint static_size (rows_for rows (lists_in (started_as toc.shapes start))) toc.shapes (started_as toc.shapes start) ≤ pool_size
+
+pub starting : {t toc : Table} {ss : Members} {start : List ℤ} (l : FileLayout) → HasFile l → t ≡ toc → length t.entries < 2 ^ 16 → toc ≡ table_of l → ss ≡ toc.shapes → IsStart l ss start → Starting toc l.static_size l.rows start
+starting {t} {toc} {ss} {start} l file same few table shapes told =
+    let b = begins file.0 l file.1 in
+    let vars = file.1.vars in
+    let is : started_as toc.shapes start ≡ vars = started file.0 l file.1 table shapes told in
+    record {
+      entries = subst (λ (u : Table). length u.entries < 2 ^ 16) same few;
+      spelled = subst (λ (u : Table). SpellsAll u.entries u.shapes) (sym table) b.reads.spelled;
+      spots = subst (λ (u : Table). HasSpots u.entries u.shapes l.static_size) (sym table) b.spots;
+      some = b.some;
+      fits = subst
+          (λ v. footprint l.static_size (rows_for l.rows (lists_in v)) toc.shapes v ≤ pool_size)
+          (sym is)
+          (subst (λ (u : Table). footprint l.static_size (rows_for l.rows (lists_in vars)) u.shapes vars ≤ pool_size) (sym table) b.fits);
+    }
+
+-- ---- what the steps ask for
+
+pub start_countable : {toc : Table} {static_size rows : ℕ} {start zs : List ℤ} {ss : Members} → Starting toc static_size rows start → ss ≡ toc.shapes → zs ≡ start → IsCountable (size_of_all_filled ss zs)
+start_countable {toc} {static_size} {rows} {start} e shapes numbers =
+    let vars = started_as toc.shapes start in
+    let fits : footprint static_size (max rows (lists_in vars + 1)) toc.shapes vars ≤ pool_size = e.fits in
+    let most = le-max_right rows (lists_in vars + 1) in
+    let small : IsCountable (size_of_all_filled toc.shapes start) = record { lists = omega (arith, fits, most); bytes = omega (arith, fits) } in
+    subst IsCountable (sym (ap₂ size_of_all_filled shapes numbers)) small
+
+pub table_fits : {toc : Table} {static_size rows : ℕ} {start : List ℤ} → Starting toc static_size rows start → round4 static_size + round4 (10 * rows) ≤ pool_size
+table_fits {toc} {static_size} {rows} {start} e =
+    let vars = started_as toc.shapes start in
+    let fits : footprint static_size (max rows (lists_in vars + 1)) toc.shapes vars ≤ pool_size = e.fits in
+    omega (arith, fits, le-max_left rows (lists_in vars + 1))
+
+-- the heap is the one of the start
+pub same_heap : {h : Lists} {m n static_size rows : ℕ} → h ≡ zero_heap m n → m ≡ static_size → n ≡ rows → h ≡ zero_heap static_size rows
+same_heap e long many = e ∙ ap₂ zero_heap long many
+
+pub can_start : {toc : Table} {static_size rows : ℕ} {start zs : List ℤ} {ss : Members} {h : Lists} → Starting toc static_size rows start → ss ≡ toc.shapes → h ≡ zero_heap static_size rows → zs ≡ start → CanStart toc ss h zs
+can_start {toc} {static_size} {rows} {start} {zs} {ss} e shapes heap numbers =
+    let vars = started_as toc.shapes start in
+    let n = length (zero_heap static_size rows).by_row in
+    let long : length (replicate static_size 0) ≡ static_size = length-replicate static_size 0 in
+    let many : n ≡ rows = length-replicate rows None in
+    let can : CanStart toc ss (zero_heap static_size rows) start = record {
+      entries = e.entries;
+      variables = shapes;
+      spelled = e.spelled;
+      spots = subst (HasSpots toc.entries toc.shapes) (sym long) e.spots;
+      empty = none_alive static_size rows;
+      fits = subst
+          (λ k. footprint k (max n (lists_in vars + 1)) toc.shapes vars ≤ pool_size)
+          (sym long)
+          (subst (λ k. footprint static_size (max k (lists_in vars + 1)) toc.shapes vars ≤ pool_size) (sym many) e.fits);
+    } in
+    subst (λ k. CanStart toc ss k zs) (sym heap) (subst (CanStart toc ss (zero_heap static_size rows)) (sym numbers) can)
+
+-- ---- what holds from then on
+
+pub start_kept : {toc : Table} {ss : Members} {h g : Lists} {start zs : List ℤ} {at n : ℕ} → CanStart toc ss h zs → Stores toc h g (started_as toc.shapes zs) → zs ≡ start → at ≡ length g.by_row → n ≡ lists_in (started_as toc.shapes zs) → IsKept toc ss g start at n
+start_kept {toc} {ss} {h} {g} {start} {zs} {at} {n} can stores numbers rows lists =
+    let vars = started_as toc.shapes zs in
+    let most = le-max_right (length h.by_row) (lists_in vars + 1) in
+    let same : at ≡ rows_with h vars = rows ∙ stores.rows in
+    let kept : IsKept toc ss g zs at n = record {
+      stand = stores.stand;
+      variables = can.variables;
+      lists = lists ∙ ap lists_in (sym stores.values);
+      rows = omega (arith, lists, most, stores.rows);
+      start_rows = omega (arith, most, same);
+      start_fits = subst
+          (λ k. footprint k at toc.shapes vars ≤ pool_size)
+          (sym stores.long)
+          (subst (λ k. footprint (length h.static_bytes) k toc.shapes vars ≤ pool_size) (sym same) can.fits);
+    } in
+    subst (λ ns. IsKept toc ss g ns at n) numbers kept
+
+abbrev seen_at : Table → ℕ → Value → Value → ℕ → ℕ → Variables
+seen_at toc static_size start vars start_rows rows =
+    record {
+      entries = toc.entries;
+      shapes = toc.shapes;
+      static_size = static_size;
+      start = start;
+      start_rows = start_rows;
+      values = vars;
+      rows = rows;
+    }
+
+-- these are the variables at the start
+pub start_seen : {toc : Table} {h g : Lists} {start zs : List ℤ} {vars : Value} {at : ℕ} (l : FileLayout) → toc ≡ table_of l → started_as toc.shapes start ≡ vars → h ≡ zero_heap l.static_size l.rows → zs ≡ start → Stores toc h g (started_as toc.shapes zs) → at ≡ length g.by_row → variables_in toc g start at ≡ at_start l vars
+start_seen {toc} {h} {g} {start} {zs} {vars} {at} l table is heap numbers stores rows =
+    let now : started_as toc.shapes zs ≡ vars = ap (started_as toc.shapes) numbers ∙ is in
+    let long : length g.static_bytes ≡ l.static_size =
+    stores.long ∙ ap (λ (k : Lists). length k.static_bytes) heap ∙ length-replicate l.static_size 0
+    in
+    let had : length h.by_row ≡ l.rows = ap (λ (k : Lists). length k.by_row) heap ∙ length-replicate l.rows None in
+    let many : length g.by_row ≡ rows_for l.rows (lists_in vars) =
+    stores.rows ∙ ap₂ (λ (n k : ℕ). max n (k + 1)) had (ap lists_in now)
+    in
+    ap₂ (λ t n. seen_at t n (started_as toc.shapes start) (values_of toc g) at (length g.by_row)) table long
+    ∙ ap₂ (λ v w. seen_at (table_of l) l.static_size v w at (length g.by_row)) is (stores.values ∙ now)
+    ∙ ap₂ (seen_at (table_of l) l.static_size vars vars) (rows ∙ many) many

@@ -1,7 +1,0 @@
--- What the table tells stands in the static bytes.
-use Rattle.nxt_types.specs.Shapes.{tree}
-use Rattle.nxt_space.proofs.PartBounds.{variable_there}
-use Rattle.nxt_space.proofs.holding.variable.Goals as goal
-
-pub returns-clause-found : goal.returns-clause-found
-returns-clause-found c = variable_there c.args.toc.now c.args.heap.now c.args.i (tree c.in_ok-shape.shape.now) c.requires.stand c.in_ok-shape.ensures

@@ -1,0 +1,4 @@
+mod Entries
+mod Placement
+pub mod Laws
+mod Examples

@@ -1,0 +1,260 @@
+-- What the top call's statuses say of the due answer.
+use Rattle.std.proofs.Common.{◌≡◌, ℕ, ◌<◌, List, [], Option, Some, true, false, refl, sym, ap, subst, arith, length, Bool, inl, inr, ◌⊎◌, map, ◌≤◌}
+use Rattle.std.specs.Prelude.{IfSome, nat_lt, if◌then◌else◌}
+use Rattle.std.specs.Io.KnownBytes.{Appends}
+use Rattle.std.proofs.lemmas.Bool.Decides.{nat_tests}
+use Rattle.nxt_layout.proofs.Laws.SomeStart.{some_start}
+use Rattle.nxt_edge.specs.Edge.{AppendsFront, AreBytes}
+use Rattle.nxt_edge.specs.declared.read_write.ReadAllFault.{ReadAllFault}
+use Rattle.nxt_edge.specs.declared.read_write.ReadAllFault.TheVariants.{Failed, TooLarge, NoMemory}
+use Rattle.nxt_edge.proofs.Laws.{Appends-none}
+use Rattle.nxt_model.specs.Image.{Image}
+use Rattle.nxt_tool.specs.Due.{Answer, answer, Meets, RunOn, answer_to, answer_given, read_status, write_status, refused_answer, sound_answer, OfFile, Run, CheckFile, CheckOf, DueTo, Due, Answers}
+use Rattle.nxt_tool.specs.declared.words.Command.{Command}
+use Rattle.nxt_tool.specs.Words.{command_of}
+use Rattle.nxt_tool.specs.RunsToday.{runs}
+use Rattle.nxt_tool.specs.Accepted.{BreaksNone, IsRun, IsSound, IsSoundFile, IsAcceptedAs, IsRefused, BreaksRule, code_in, image_of}
+use Rattle.nxt_tool.specs.declared.fault.Refusal.{Refusal}
+use Rattle.nxt_tool.specs.declared.fault.Refusal.TheVariants as refusals
+use Rattle.nxt_types.specs.Refusals.{IsRefusal, IsAccepted}
+use Rattle.nxt_rxe.specs.declared.parts.Parts.{Parts}
+use Rattle.nxt_rxe.specs.declared.fault.RxeFault.{RxeFault}
+use Rattle.nxt_rxe.specs.Files.{IsFile}
+use Rattle.nxt_rxe.specs.FileRules.{Broken, rank}
+use Rattle.nxt_rxe.proofs.Laws.{file_or_refusal}
+use Rattle.nxt_layout.specs.declared.fault.LayoutFault.{LayoutFault}
+use Rattle.nxt_layout.specs.LayoutRules as layout_rules
+use Rattle.nxt_table.specs.declared.fault.TableFault.TheVariants.{Place}
+use Rattle.nxt_layout.specs.declared.fault.LayoutFault.TheVariants.{Table, RowIndex, RowShared, Stride, RowPlace, RowOverlap}
+use Rattle.nxt_layout.specs.Start.{ground, HasShapes, StartsAs, start_footprint}
+use Rattle.nxt_model.specs.Values.{Value, group_of}
+use Rattle.nxt_layout.proofs.Laws.Decided.{layout_or_refusal}
+use Rattle.nxt_code.specs.declared.fault.CodeFault.{CodeFault}
+use Rattle.nxt_code.specs.CodeRules as code_rules
+use Rattle.nxt_code.proofs.Laws.Decided.{code_or_refusal}
+use Rattle.nxt_types.specs.Shapes.{Members}
+use Rattle.nxt_tool.specs.declared.writing.Fault.{Fault}
+use Rattle.nxt_tool.specs.declared.writing.Fault.TheVariants.{Write, NoMemory as NoRoom}
+use Rattle.nxt_tool.specs.Rows.{given, at_first}
+use Rattle.nxt_tool.proofs.Reports.Texts.{is_report}
+use Rattle.nxt_tool.specs.Statuses.{status_of}
+use Rattle.nxt_tool.specs.Plain.{held}
+use Rattle.nxt_tool.specs.Running.{report, plain_row}
+use Rattle.nxt_model.specs.Report.{IsReport, setting}
+use Rattle.nxt_model.specs.Program.{start}
+use Rattle.nxt_model.specs.Image.{program_of}
+use Rattle.std.specs.Prelude.{MatchBool}
+use Rattle.nxt_tool.specs.declared.status.Status.{Status}
+use Rattle.nxt_tool.specs.declared.status.Status.TheVariants as status
+
+nothing_yet : (w : Option (List ℕ)) (text : List ℕ) → AppendsFront w w text
+nothing_yet w text = ([], (text, refl), Appends-none w)
+
+-- a read that failed, where a source that is too long gives TooLarge with no text
+pub read_failed : (fault : ReadAllFault) (d : Answer) (w : Option (List ℕ)) → (fault ≡ TooLarge → d ≡ answer status.TooLarge [] []) → Meets (read_status fault) d w w
+read_failed Failed d w long = nothing_yet w d.report
+read_failed NoMemory d w long = nothing_yet w d.report
+read_failed TooLarge d w long = (sym (ap (λ (x : Answer). x.status) (long refl)), subst (λ (t : List ℕ). Appends w w t) (sym (ap (λ (x : Answer). x.report) (long refl))) (Appends-none w))
+
+-- a known list is too long
+pub long_list : (left : Option (List ℕ)) (s : List ℕ) (limit : ℕ) → left ≡ Some s → IfSome left (λ l. limit < length l) → nat_lt limit (length s) ≡ true
+long_list left s limit e long = let h : limit < length s = subst (λ (o : Option (List ℕ)). IfSome o (λ l. limit < length l)) e long in grind (arith, nat_tests)
+
+-- the bytes that were read are those that the source had
+pub read_is : (left : Option (List ℕ)) (b bytes : List ℕ) → left ≡ Some b → IfSome left (λ l. bytes ≡ l) → bytes ≡ b
+read_is left b bytes e h = subst (λ (o : Option (List ℕ)). IfSome o (λ l. bytes ≡ l)) e h
+
+pub long_script : (image : Image) (left : Option (List ℕ)) (s : List ℕ) → left ≡ Some s → IfSome left (λ l. 16777216 < length l) → answer_to image s ≡ answer status.TooLarge [] []
+long_script image left s e long = rw (long_list left s 16777216 e long) refl
+
+-- a sink that isn't used, where no text is due to it
+pub unused : (s : Status) (d : Answer) (i r r' : Option (List ℕ)) → d.image ≡ [] → Meets s d r r' → Meets s (record d { report = d.image }) i i
+unused status.Done d i r r' e m = (m.0, subst (λ (t : List ℕ). Appends i i t) (sym e) (Appends-none i))
+unused status.Refused d i r r' e m = (m.0, subst (λ (t : List ℕ). Appends i i t) (sym e) (Appends-none i))
+unused status.Words d i r r' e m = (m.0, subst (λ (t : List ℕ). Appends i i t) (sym e) (Appends-none i))
+unused status.ScriptRefused d i r r' e m = (m.0, subst (λ (t : List ℕ). Appends i i t) (sym e) (Appends-none i))
+unused status.TooLarge d i r r' e m = (m.0, subst (λ (t : List ℕ). Appends i i t) (sym e) (Appends-none i))
+unused status.ReadFault d i r r' e m = nothing_yet i d.image
+unused status.WriteFault d i r r' e m = nothing_yet i d.image
+unused status.NoMemory d i r r' e m = nothing_yet i d.image
+
+-- with a status that is no fault, a call gave the due one
+pub right_status : (s : Status) (d : Answer) (r r' : Option (List ℕ)) → Meets s d r r' → (s ≡ status.ReadFault → ⊥) → (s ≡ status.WriteFault → ⊥) → (s ≡ d.status) ⊎ (s ≡ status.NoMemory)
+right_status status.Done d r r' m a b = inl m.0
+right_status status.Refused d r r' m a b = inl m.0
+right_status status.Words d r r' m a b = inl m.0
+right_status status.ScriptRefused d r r' m a b = inl m.0
+right_status status.TooLarge d r r' m a b = inl m.0
+right_status status.ReadFault d r r' m a b = absurd (a refl)
+right_status status.WriteFault d r r' m a b = absurd (b refl)
+right_status status.NoMemory d r r' m a b = inr refl
+
+run_by : (image : Image) (s : List ℕ) (long : Bool) → MatchBool long ((if long then answer status.TooLarge [] [] else answer_given image (given (at_first s))) ≡ answer status.TooLarge [] [])
+    ((text : List ℕ) × IsReport (setting image 0) (map plain_row (given (at_first s)).0) (given (at_first s)).1 text
+    × ((if long then answer status.TooLarge [] [] else answer_given image (given (at_first s))) ≡ answer (status_of (given (at_first s)).1) [] text))
+run_by image s true = refl
+run_by image s false = (report (held image (start (program_of image))) (given (at_first s)), is_report image (given (at_first s)), refl)
+
+-- what the machine gives is due
+pub run_on : (image : Image) (s : List ℕ) → RunOn image s (answer_to image s)
+run_on image s = run_by image s (nat_lt 16777216 (length s))
+
+-- a write that failed
+pub write_failed : (fault : Fault) (d : Answer) (w w' : Option (List ℕ)) → AppendsFront w w' d.report → Meets (write_status fault) d w w'
+write_failed Write d w w' h = h
+write_failed NoRoom d w w' h = h
+
+-- ---- programs
+
+within_by : (long : Bool) (a : Answer) (go : Type 0) → long ≡ false → go → MatchBool long (a ≡ answer status.TooLarge [] []) go
+within_by true a go e is = absurd (let f : ⊥ = cc in f)
+within_by false a go e is = is
+
+short_program : (program : List ℕ) → length program ≤ 262144 → nat_lt 262144 (length program) ≡ false
+short_program program h = grind (arith, nat_tests)
+
+-- the line of a refused program is due
+pub refused_run : (program script : List ℕ) (r : Refusal) → length program ≤ 262144 → IsRefused program r → Run program script (refused_answer r)
+refused_run program script r few refused =
+    within_by (nat_lt 262144 (length program)) (refused_answer r) _ (short_program program few) (inl (r, refused, refl))
+
+-- what is due to a script on an accepted program is due
+pub accepted_run : (program script : List ℕ) (image : Image) (a : Answer) → length program ≤ 262144 → IsAcceptedAs program image → RunOn image script a → Run program script a
+accepted_run program script image a few accepted on =
+    within_by (nat_lt 262144 (length program)) a _ (short_program program few) (inr (image, accepted, on))
+
+abbrev OnProgram : List ℕ → List ℕ → Type 0
+OnProgram program script = (a : Answer) × OfFile program (λ image. RunOn image script) a
+
+by_test : (program script : List ℕ) (p : Parts) (ss : Members) (b : Bool) → IsFile program p → BreaksNone p ss → runs p ss ≡ b → OnProgram program script
+by_test program script p ss false file sound e = (refused_answer refusals.Unbuilt, inl (refusals.Unbuilt, (p, file, (ss, sound, e)), refl))
+by_test program script p ss true file sound e =
+    let start = some_start p ss sound.layout sound.shapes in
+    let image = image_of p ss start.0 in
+    let run : IsRun p image = record { shapes = ss; sound = sound; vars = start.0; starts = start.1; runs = e; image_is = refl } in
+    (answer_to image script, inr (image, (p, file, run), run_on image script))
+
+by_code : (program script : List ℕ) (p : Parts) (ss : Members) → IsFile program p → IsAccepted (layout_rules.Broken p) → HasShapes p ss →
+    ((f : CodeFault) × IsRefusal (code_rules.Broken (code_in p ss)) code_rules.rank f) ⊎ IsAccepted (code_rules.Broken (code_in p ss)) → OnProgram program script
+by_code program script p ss file layout shapes (inl found) =
+    (refused_answer (refusals.Code found.0), inl (refusals.Code found.0, (p, file, (layout, ss, shapes, found.1)), refl))
+by_code program script p ss file layout shapes (inr code) =
+    by_test program script p ss (runs p ss) file (record { layout = layout; shapes = shapes; code = code }) refl
+
+by_layout : (program script : List ℕ) (p : Parts) → IsFile program p → ((f : LayoutFault) × IsRefusal (layout_rules.Broken p) layout_rules.rank f) ⊎ (IsAccepted (layout_rules.Broken p) × (ss : Members) × HasShapes p ss) → OnProgram program script
+by_layout program script p file (inl found) = (refused_answer (refusals.Layout found.0), inl (refusals.Layout found.0, (p, file, found.1), refl))
+by_layout program script p file (inr found) = by_code program script p found.1 file found.0 found.2 (code_or_refusal (code_in p found.1))
+
+by_file : (program script : List ℕ) → ((f : RxeFault) × IsRefusal (Broken program) rank f) ⊎ ((p : Parts) × IsFile program p) → OnProgram program script
+by_file program script (inl found) = (refused_answer (refusals.Sections found.0), inl (refusals.Sections found.0, found.1, refl))
+by_file program script (inr found) =
+    by_layout program script found.0 found.1 (layout_or_refusal found.0)
+
+by_length : (long : Bool) (program script : List ℕ) → AreBytes program → (a : Answer) × MatchBool long (a ≡ answer status.TooLarge [] []) (OfFile program (λ image. RunOn image script) a)
+by_length true program script bytes = (answer status.TooLarge [] [], refl)
+by_length false program script bytes = by_file program script (file_or_refusal program bytes)
+
+-- some answer is due to every program and script
+pub some_run : (program script : List ℕ) → AreBytes program → (a : Answer) × Run program script a
+some_run program script bytes = by_length (nat_lt 262144 (length program)) program script bytes
+
+too_large : (long : Bool) (go : Type 0) → long ≡ true → MatchBool long (answer status.TooLarge [] [] ≡ answer status.TooLarge [] []) go
+too_large true go e = refl
+too_large false go e = absurd (let f : ⊥ = cc in f)
+
+-- nothing is written where a program isn't read to its end
+pub unread_run : (fault : ReadAllFault) (program script : List ℕ) (w : Option (List ℕ)) → AreBytes program → (fault ≡ TooLarge → nat_lt 262144 (length program) ≡ true) →
+    (a : Answer) × Run program script a × Meets (read_status fault) a w w
+unread_run Failed program script w bytes long = let due = some_run program script bytes in (due.0, due.1, nothing_yet w due.0.report)
+unread_run NoMemory program script w bytes long = let due = some_run program script bytes in (due.0, due.1, nothing_yet w due.0.report)
+unread_run TooLarge program script w bytes long = (answer status.TooLarge [] [], too_large (nat_lt 262144 (length program)) _ (long refl), (refl, Appends-none w))
+
+pub no_memory_run : (program script : List ℕ) (w : Option (List ℕ)) → AreBytes program → (a : Answer) × Run program script a × Meets status.NoMemory a w w
+no_memory_run program script w bytes = let due = some_run program script bytes in (due.0, due.1, nothing_yet w due.0.report)
+
+-- no image text is due to a run
+no_image_on : (long : Bool) (image : Image) (script : List ℕ) (a : Answer) → MatchBool long (a ≡ answer status.TooLarge [] [])
+    ((text : List ℕ) × IsReport (setting image 0) (map plain_row (given (at_first script)).0) (given (at_first script)).1 text × (a ≡ answer (status_of (given (at_first script)).1) [] text)) → a.image ≡ []
+no_image_on true image script a due = ap (λ (x : Answer). x.image) due
+no_image_on false image script a due = ap (λ (x : Answer). x.image) due.2
+
+no_image_of : (program script : List ℕ) (a : Answer) → OfFile program (λ image. RunOn image script) a → a.image ≡ []
+no_image_of program script a (inl refused) = ap (λ (x : Answer). x.image) refused.2
+no_image_of program script a (inr accepted) = no_image_on (nat_lt 16777216 (length script)) accepted.0 script a accepted.2
+
+no_image_by : (long : Bool) (program script : List ℕ) (a : Answer) → MatchBool long (a ≡ answer status.TooLarge [] []) (OfFile program (λ image. RunOn image script) a) → a.image ≡ []
+no_image_by true program script a due = ap (λ (x : Answer). x.image) due
+no_image_by false program script a due = no_image_of program script a due
+
+pub no_image : (program script : List ℕ) (a : Answer) → Run program script a → a.image ≡ []
+no_image program script a due = no_image_by (nat_lt 262144 (length program)) program script a due
+
+-- ---- checks
+
+-- the line of a program that breaks a rule is due
+pub refused_check : (program : List ℕ) (r : Refusal) → length program ≤ 262144 → BreaksRule program r → CheckOf program (refused_answer r)
+refused_check program r few broken =
+    within_by (nat_lt 262144 (length program)) (refused_answer r) _ (short_program program few) (inl (r, broken, refl))
+
+-- and so is that of a sound one
+pub sound_check : (program : List ℕ) (size : ℕ) → length program ≤ 262144 → IsSoundFile program size → CheckOf program (sound_answer size)
+sound_check program size few sound =
+    within_by (nat_lt 262144 (length program)) (sound_answer size) _ (short_program program few) (inr (size, sound, refl))
+
+check_code : (program : List ℕ) (p : Parts) (ss : Members) → IsFile program p → IsAccepted (layout_rules.Broken p) → HasShapes p ss →
+    ((f : CodeFault) × IsRefusal (code_rules.Broken (code_in p ss)) code_rules.rank f) ⊎ IsAccepted (code_rules.Broken (code_in p ss)) → (a : Answer) × CheckFile program a
+check_code program p ss file layout shapes (inl found) =
+    (refused_answer (refusals.Code found.0), inl (refusals.Code found.0, (p, file, (layout, ss, shapes, found.1)), refl))
+check_code program p ss file layout shapes (inr code) =
+    let start = some_start p ss layout shapes in
+    let size = start_footprint p ss start.0 in
+    let sound : IsSound p size = record { shapes = ss; sound = record { layout = layout; shapes = shapes; code = code }; vars = start.0; starts = start.1; size_is = refl } in
+    (sound_answer size, inr (size, (p, file, sound), refl))
+
+check_layout : (program : List ℕ) (p : Parts) → IsFile program p → ((f : LayoutFault) × IsRefusal (layout_rules.Broken p) layout_rules.rank f) ⊎ (IsAccepted (layout_rules.Broken p) × (ss : Members) × HasShapes p ss) → (a : Answer) × CheckFile program a
+check_layout program p file (inl found) = (refused_answer (refusals.Layout found.0), inl (refusals.Layout found.0, (p, file, found.1), refl))
+check_layout program p file (inr found) = check_code program p found.1 file found.0 found.2 (code_or_refusal (code_in p found.1))
+
+check_sections : (program : List ℕ) → ((f : RxeFault) × IsRefusal (Broken program) rank f) ⊎ ((p : Parts) × IsFile program p) → (a : Answer) × CheckFile program a
+check_sections program (inl found) = (refused_answer (refusals.Sections found.0), inl (refusals.Sections found.0, found.1, refl))
+check_sections program (inr found) =
+    check_layout program found.0 found.1 (layout_or_refusal found.0)
+
+check_length : (long : Bool) (program : List ℕ) → AreBytes program → (a : Answer) × MatchBool long (a ≡ answer status.TooLarge [] []) (CheckFile program a)
+check_length true program bytes = (answer status.TooLarge [] [], refl)
+check_length false program bytes = check_sections program (file_or_refusal program bytes)
+
+-- some answer is due to every program
+some_check : (program : List ℕ) → AreBytes program → (a : Answer) × CheckOf program a
+some_check program bytes = check_length (nat_lt 262144 (length program)) program bytes
+
+-- nothing is written where a program isn't read to its end
+pub unread_check : (fault : ReadAllFault) (program : List ℕ) (w : Option (List ℕ)) → AreBytes program → (fault ≡ TooLarge → nat_lt 262144 (length program) ≡ true) →
+    (a : Answer) × CheckOf program a × Meets (read_status fault) a w w
+unread_check Failed program w bytes long = let due = some_check program bytes in (due.0, due.1, nothing_yet w due.0.report)
+unread_check NoMemory program w bytes long = let due = some_check program bytes in (due.0, due.1, nothing_yet w due.0.report)
+unread_check TooLarge program w bytes long = (answer status.TooLarge [] [], too_large (nat_lt 262144 (length program)) _ (long refl), (refl, Appends-none w))
+
+pub no_memory_check : (program : List ℕ) (w : Option (List ℕ)) → AreBytes program → (a : Answer) × CheckOf program a × Meets status.NoMemory a w w
+no_memory_check program w bytes = let due = some_check program bytes in (due.0, due.1, nothing_yet w due.0.report)
+
+-- no image text is due to a check
+no_image_checked : (program : List ℕ) (a : Answer) → CheckFile program a → a.image ≡ []
+no_image_checked program a (inl refused) = ap (λ (x : Answer). x.image) refused.2
+no_image_checked program a (inr sound) = ap (λ (x : Answer). x.image) sound.2
+
+no_image_within : (long : Bool) (program : List ℕ) (a : Answer) → MatchBool long (a ≡ answer status.TooLarge [] []) (CheckFile program a) → a.image ≡ []
+no_image_within true program a due = ap (λ (x : Answer). x.image) due
+no_image_within false program a due = no_image_checked program a due
+
+pub no_image_check : (program : List ℕ) (a : Answer) → CheckOf program a → a.image ≡ []
+no_image_check program a due = no_image_within (nat_lt 262144 (length program)) program a due
+
+-- ---- commands
+
+-- what is due to a command is due to its words
+pub due_to : (words : List (List ℕ)) (command : Option Command) (program script : List ℕ) (a : Answer) → command_of words ≡ command → DueTo command program script a → Due words program script a
+due_to words command program script a form due = subst (λ o. DueTo o program script a) (sym form) due
+
+pub no_words_answer : (image report : Option (List ℕ)) → Answers status.Words (answer status.Words [] []) image image report report
+no_words_answer image report = record { report_text = (refl, Appends-none report); image_text = (refl, Appends-none image) }

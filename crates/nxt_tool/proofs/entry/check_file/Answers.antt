@@ -1,0 +1,34 @@
+-- What is due to a program that is checked, by how far it was read.
+use Rattle.std.proofs.Common.{◌≡◌, ℕ, ◌≤◌, ◌∙◌, List, Err, ap, subst, length}
+use Rattle.nxt_edge.proofs.Laws.{Consumes-longer}
+use Rattle.nxt_tool.specs.Accepted.{IsSoundFile, BreaksRule, HasBreak}
+use Rattle.nxt_tool.specs.Due.{refused_answer, sound_answer}
+use Rattle.nxt_tool.specs.declared.fault.AcceptFault.TheVariants.{Refused}
+use Rattle.nxt_tool.proofs.Reports.Statuses.{long_list, read_is, refused_check, sound_check, unread_check, no_memory_check}
+use Rattle.nxt_tool.proofs.entry.check_file.Goals as goal
+
+pub returns-in-Err-clause-told : goal.returns-in-Err-clause-told
+returns-in-Err-clause-told g c = λ b bytes program.
+    rw c.of_read.ensures (unread_check c.in-Err.fault b _ bytes (λ large.
+    let taken = c.in-Err.ensures.too_large (ap (λ (x : _). Err x) large) in
+    long_list _ b 262144 program (Consumes-longer _ _ 262144 taken.0 taken.1 taken.2)))
+
+pub returns-in-Ok-check-clause-told : goal.returns-in-Ok-check-clause-told
+returns-in-Ok-check-clause-told g c = λ b bytes program.
+    let size = c.in-Ok-check.footprint in
+    let same : c.in-Ok.bytes ≡ b = read_is _ b _ program c.in-Ok.ensures.all in
+    let few : length b ≤ 262144 = subst (λ (l : List ℕ). length l ≤ 262144) same c.in-Ok.ensures.within in
+    let sound : IsSoundFile b size = subst (λ (l : List ℕ). IsSoundFile l size) (c.as_slice.ensures ∙ same) c.in-Ok-check.ensures in
+    (sound_answer size, sound_check b size few sound, c.tell.ensures.told)
+
+pub returns-in-Err-NoMemory-clause-told : goal.returns-in-Err-NoMemory-clause-told
+returns-in-Err-NoMemory-clause-told g c = λ b bytes program. no_memory_check b _ bytes
+
+pub returns-clause-told : goal.returns-clause-told
+returns-clause-told g c = λ b bytes program.
+    let refusal = c.in-Err-Refused.refusal in
+    let same : c.in-Ok.bytes ≡ b = read_is _ b _ program c.in-Ok.ensures.all in
+    let few : length b ≤ 262144 = subst (λ (l : List ℕ). length l ≤ 262144) same c.in-Ok.ensures.within in
+    let cause : HasBreak c.as_slice.result.now (Refused refusal) = rw c.in-Err-Refused.field-0-is at c.in-Err-Refused.ensures in
+    let broken : BreaksRule b refusal = subst (λ (l : List ℕ). BreaksRule l refusal) (c.as_slice.ensures ∙ same) cause in
+    (refused_answer refusal, refused_check b refusal few broken, c.refuse.ensures.told)

@@ -1,0 +1,36 @@
+-- What is due to a program, by how far it was read.
+use Rattle.std.proofs.Common.{◌≡◌, ℕ, ◌≤◌, ◌∙◌, List, Err, ap, subst, length}
+use Rattle.nxt_edge.proofs.Laws.{Consumes-longer}
+use Rattle.nxt_tool.specs.Accepted.{IsAcceptedAs, IsRefused, HasCause}
+use Rattle.nxt_tool.specs.Plain.{image_in}
+use Rattle.nxt_tool.specs.Due.{ReadsScript, answer_to, refused_answer}
+use Rattle.nxt_tool.specs.declared.fault.AcceptFault.TheVariants.{Refused}
+use Rattle.nxt_tool.proofs.Reports.Statuses.{long_list, read_is, run_on, accepted_run, refused_run, unread_run, no_memory_run}
+use Rattle.nxt_tool.proofs.entry.run.Goals as goal
+
+pub returns-in-Err-clause-told : goal.returns-in-Err-clause-told
+returns-in-Err-clause-told g c = λ b s bytes program script.
+    rw c.of_read.ensures (unread_run c.in-Err.fault b s _ bytes (λ large.
+    let taken = c.in-Err.ensures.too_large (ap (λ (x : _). Err x) large) in
+    long_list _ b 262144 program (Consumes-longer _ _ 262144 taken.0 taken.1 taken.2)))
+
+pub returns-in-Ok-accept-clause-told : goal.returns-in-Ok-accept-clause-told
+returns-in-Ok-accept-clause-told g c = λ b s bytes program script.
+    let image = image_in c.in-Ok-accept.program in
+    let same : c.in-Ok.bytes ≡ b = read_is _ b _ program c.in-Ok.ensures.all in
+    let few : length b ≤ 262144 = subst (λ (l : List ℕ). length l ≤ 262144) same c.in-Ok.ensures.within in
+    let accepted : IsAcceptedAs b image = subst (λ (l : List ℕ). IsAcceptedAs l image) (c.as_slice.ensures ∙ same) c.in-Ok-accept.ensures.accepted in
+    let reads : ReadsScript b = record { within = few; image = image; accepted = accepted } in
+    (answer_to image s, accepted_run b s image _ few accepted (run_on image s), c.run_program.ensures.told s (script reads))
+
+pub returns-in-Err-NoMemory-clause-told : goal.returns-in-Err-NoMemory-clause-told
+returns-in-Err-NoMemory-clause-told g c = λ b s bytes program script. no_memory_run b s _ bytes
+
+pub returns-clause-told : goal.returns-clause-told
+returns-clause-told g c = λ b s bytes program script.
+    let refusal = c.in-Err-Refused.refusal in
+    let same : c.in-Ok.bytes ≡ b = read_is _ b _ program c.in-Ok.ensures.all in
+    let few : length b ≤ 262144 = subst (λ (l : List ℕ). length l ≤ 262144) same c.in-Ok.ensures.within in
+    let cause : HasCause c.as_slice.result.now (Refused refusal) = rw c.in-Err-Refused.field-0-is at c.in-Err-Refused.ensures.accepted in
+    let refused : IsRefused b refusal = subst (λ (l : List ℕ). IsRefused l refusal) (c.as_slice.ensures ∙ same) cause in
+    (refused_answer refusal, refused_run b s refusal few refused, c.refuse.ensures.told)

@@ -1,0 +1,141 @@
+// Heaps: byte lists by row in a pool of 32,768 bytes.
+
+use nxt_heap::{Heap, PoolPassed};
+use std::process::Abort;
+use std::test::Fail;
+
+// Gives a list another number of bytes; a row without a list counts as one that the pool doesn't hold.
+fn resize(rt: &impl Abort, heap: &mut Heap, row: u16, bytes: u32) -> Result<(), PoolPassed> {
+    match heap.stride(row) {
+        None => Err(PoolPassed(0)),
+        Some(stride) => {
+            assert!(rt; stride > 0);
+            assert!(rt; bytes % u32::from(stride) == 0);
+            heap.resize(row, bytes)
+        }
+    }
+}
+
+// A byte that differs from row to row and from place to place.
+fn mark(row: u16, at: usize) -> u8 {
+    (at % 61 + row as usize % 3 * 64 + 1) as u8
+}
+
+// The list has that many bytes: its marks first, and then zeros.
+fn expect_list(rt: &impl Abort, heap: &Heap, row: u16, marks: usize, bytes: usize) {
+    match heap.stride(row) {
+        None => assert!(rt; false),
+        Some(_) => {
+            let found = heap.bytes_of(row);
+            assert_eq!(rt; found.len(), bytes);
+            for (at, &byte) in found.iter().enumerate() {
+                assert_eq!(rt;
+                    byte,
+                    if at < marks { mark(row, at) } else { 0 },
+                    "row {row} at {at}"
+                );
+            }
+        }
+    }
+}
+
+fn write_marks(rt: &impl Abort, heap: &mut Heap, row: u16, bytes: u32) {
+    for at in 0..bytes {
+        match heap.stride(row) {
+            None => assert!(rt; false),
+            Some(_) => {
+                let len = heap.bytes_of(row).len();
+                assert!(rt; (at as usize) < len);
+                heap.write(row, at, mark(row, at as usize));
+            }
+        }
+    }
+}
+
+#[test]
+fn heap_by_hand(rt: HostRuntime) -> Result<(), Fail> {
+    let mut heap = Heap::new(rt.alloc(), 8, 1)?;
+    assert_eq!(rt; heap.footprint(), 20);
+    assert_eq!(rt; heap.stride(0), None);
+    assert_eq!(rt; heap.stride(1), None);
+    assert_eq!(rt; heap.new_array(1), Ok(1));
+    assert_eq!(rt; heap.stride(1), Some(1));
+    assert_eq!(rt; heap.footprint(), 28);
+    assert_eq!(rt; resize(&rt, &mut heap, 1, 5), Ok(()));
+    assert_eq!(rt; heap.footprint(), 36);
+    assert_eq!(rt; resize(&rt, &mut heap, 1, 32741), Err(PoolPassed(32772)));
+    assert_eq!(rt; heap.footprint(), 36);
+    assert_eq!(rt; resize(&rt, &mut heap, 1, 32740), Ok(()));
+    assert_eq!(rt; heap.footprint(), 32768);
+    assert_eq!(rt; heap.new_array(1), Err(PoolPassed(32780)));
+    assert_eq!(rt; heap.dump(rt.alloc())?.len(), 32768);
+    Ok(())
+}
+
+#[test]
+fn every_block_moves_with_its_bytes(rt: HostRuntime) -> Result<(), Fail> {
+    let mut heap = Heap::new(rt.alloc(), 6, 3)?;
+    let mut lengths = [0; 7];
+    for _ in 0..4 {
+        assert_eq!(rt; heap.new_array(2).is_ok(), true);
+    }
+    let steps = [
+        (1, 8),
+        (2, 6),
+        (3, 14),
+        (4, 2),
+        (1, 20),
+        (3, 4),
+        (2, 0),
+        (1, 2),
+        (4, 30),
+        (2, 10),
+    ];
+    for (row, bytes) in steps {
+        assert!(rt; row < 7);
+        let had = lengths[row];
+        assert_eq!(rt; resize(&rt, &mut heap, row as u16, bytes), Ok(()));
+        expect_list(
+            &rt,
+            &heap,
+            row as u16,
+            had.min(bytes) as usize,
+            bytes as usize,
+        );
+        write_marks(&rt, &mut heap, row as u16, bytes);
+        lengths[row] = bytes;
+        for other in 1..5 {
+            let bytes = lengths[other] as usize;
+            expect_list(&rt, &heap, other as u16, bytes, bytes);
+        }
+    }
+    match heap.stride(2) {
+        None => assert!(rt; false),
+        Some(_) => heap.free_array(2),
+    }
+    assert_eq!(rt; heap.new_array(3), Ok(2));
+    assert_eq!(rt; heap.new_array(3), Ok(5));
+    expect_list(&rt, &heap, 1, 2, 2);
+    expect_list(&rt, &heap, 2, 0, 0);
+    expect_list(&rt, &heap, 3, 4, 4);
+    expect_list(&rt, &heap, 4, 30, 30);
+    Ok(())
+}
+
+#[test]
+fn a_restart_leaves_zeros_and_free_rows(rt: HostRuntime) -> Result<(), Fail> {
+    let mut heap = Heap::new(rt.alloc(), 6, 3)?;
+    heap.set_byte(5, 7);
+    assert_eq!(rt; heap.byte(5), 7);
+    assert_eq!(rt; heap.new_array(1), Ok(1));
+    heap.restart(2);
+    assert_eq!(rt; heap.byte(5), 0);
+    assert_eq!(rt; heap.row_count(), 2);
+    assert_eq!(rt; heap.table_place(), 8);
+    assert_eq!(rt; heap.footprint(), 28);
+    assert_eq!(rt; heap.compact(1), 0);
+    assert_eq!(rt; heap.unsettled(), 0);
+    assert_eq!(rt; heap.new_array(1), Ok(1));
+    assert_eq!(rt; heap.new_array(1), Ok(2));
+    Ok(())
+}

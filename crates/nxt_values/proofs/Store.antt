@@ -1,0 +1,4 @@
+-- A value in the place of another one.
+
+-- Other values stay where one is stored in the place of another.
+pub mod Others

@@ -1,0 +1,207 @@
+// Values that are read from the heap.
+
+ghost use Rattle.std.specs.Prelude.{◌≡◌, ◌<◌, ◌≤◌, ◌+◌, ◌^◌, ◌++◌, OnOk, length, drop, take, slice_index, slice_get, map};
+ghost use Rattle.std.specs.Int.{from_le_bytes};
+ghost use Rattle.nxt_types.specs.Arithmetic.{leaf_size as size_of_leaf, width_of};
+ghost use Rattle.nxt_types.specs.Shapes.{tree, members};
+ghost use Rattle.nxt_types.specs.Names.{size, sizes};
+ghost use Rattle.nxt_model.specs.Values.{values, flat, flats};
+ghost use Rattle.nxt_types.specs.Pool.{pool_size};
+ghost use Rattle.nxt_model.specs.Means.Text.{number_in};
+ghost use Rattle.nxt_model.specs.Reading.{desc_of, u16_in};
+ghost use Rattle.nxt_heap.specs.Lists.{footprint};
+ghost use Rattle.nxt_values.specs.Homes.{bytes_in, IsHome, value_there, values_there, HoldsThere, HoldAllThere};
+ghost use Rattle.nxt_values.specs.Held.{leaf_place as place_of};
+
+use crate::elements::elements_at;
+use nxt_heap::Heap;
+use nxt_types::NoMemory;
+use nxt_types::kind::Kind;
+use nxt_types::lists::Nums;
+use nxt_types::numbers::extend;
+use nxt_types::shape::{Shape, TocEntry};
+
+/// The bytes that a value stands in: the static bytes, or those of a row's list.
+#[derive(Clone, Copy, PartialEq, Eq, Debug)]
+pub enum Home {
+    Static,
+    Row(u16),
+}
+
+/// Where a value stands: the number of its first entry, and where the element that it is in begins among its home's
+/// bytes. What is in no element has the base 0.
+#[derive(Clone, Copy, PartialEq, Eq, Debug)]
+pub struct Place {
+    pub home: Home,
+    pub entry: u16,
+    pub base: u32,
+}
+
+impl Place {
+    /// Where the first member of the group stands that stands there.
+    pub fn inside(self) -> Place
+        requires { self.entry + 1 < 2 ^ 16 }
+        ensures { result ≡ record self { entry = self.entry + 1 } }
+    {
+        self.member(self.entry + 1)
+    }
+
+    /// Where the member of a group stands that begins at an entry.
+    pub fn member(self, entry: u16) -> Place
+        ensures { result ≡ record self { entry = entry } }
+    {
+        Place { entry, ..self }
+    }
+}
+
+/// A byte.
+pub fn byte_in(heap: &Heap, home: Home, at: u32) -> u8
+    requires home { IsHome heap.now home }
+    requires within { at < length (bytes_in heap.now home) }
+    ensures { result ≡ slice_index (bytes_in heap.now home) at }
+{
+    match home {
+        Home::Static => heap.byte(at),
+        Home::Row(row) => heap.bytes_of(row)[at as usize],
+    }
+}
+
+/// The number of 16 bits whose low byte is there.
+pub fn row_at(heap: &Heap, home: Home, at: u32) -> u16
+    requires pool { footprint heap.now ≤ pool_size }
+    requires home { IsHome heap.now home }
+    requires within { at + 2 ≤ length (bytes_in heap.now home) }
+    ensures { result ≡ u16_in (bytes_in heap.now home) at }
+{
+    u16::from_le_bytes([byte_in(heap, home, at), byte_in(heap, home, at + 1)])
+}
+
+// The bytes of a number as a word.
+fn word_at(heap: &Heap, home: Home, at: u32, kind: Kind) -> u32
+    requires pool { footprint heap.now ≤ pool_size }
+    requires home { IsHome heap.now home }
+    requires within { at + size_of_leaf kind ≤ length (bytes_in heap.now home) }
+    ensures { result ≡ from_le_bytes (width_of kind) (take (size_of_leaf kind) (drop at (bytes_in heap.now home))) }
+{
+    match kind {
+        Kind::Ubyte | Kind::Sbyte => u32::from(byte_in(heap, home, at)),
+        Kind::Uword | Kind::Sword => u32::from(row_at(heap, home, at)),
+        Kind::Ulong | Kind::Slong => u32::from_le_bytes([
+            byte_in(heap, home, at),
+            byte_in(heap, home, at + 1),
+            byte_in(heap, home, at + 2),
+            byte_in(heap, home, at + 3),
+        ]),
+    }
+}
+
+/// The number of a kind whose low byte is there.
+pub fn number_at(heap: &Heap, home: Home, at: u32, kind: Kind) -> i64
+    requires pool { footprint heap.now ≤ pool_size }
+    requires home { IsHome heap.now home }
+    requires within { at + size_of_leaf kind ≤ length (bytes_in heap.now home) }
+    ensures { result ≡ number_in kind (drop at (bytes_in heap.now home)) }
+{
+    extend(kind, word_at(heap, home, at, kind))
+}
+
+/// The `desc` of an entry; 0 where there is no entry.
+pub fn desc_at(entries: &[TocEntry], entry: u16) -> u16
+    ensures { result ≡ desc_of (slice_get entries.now entry) }
+{
+    match entries.get(entry as usize) {
+        Some(entry) => entry.desc,
+        None => 0,
+    }
+}
+
+/// Where an entry's leaf stands in an element at `base`, or where `base` is 0 outside of all elements.
+pub fn leaf_place(entries: &[TocEntry], entry: u16, base: u32) -> u32
+    requires { place_of entries.now entry base < 2 ^ 32 }
+    ensures { result ≡ place_of entries.now entry base }
+{
+    base + u32::from(desc_at(entries, entry))
+}
+
+/// How many entries spell a shape.
+#[cycle(size)]
+pub fn size_of(shape: &Shape) -> u16
+    requires { size (tree shape.now) < 2 ^ 16 }
+    ensures { result ≡ size (tree shape.now) }
+{
+    match shape {
+        Shape::List(_, element) => size_of(element) + 1,
+        Shape::Group(members) => sizes_of(members.items.as_slice()) + 1,
+        Shape::Void | Shape::Num(_) | Shape::Mutex => 1,
+    }
+}
+
+#[cycle(size)]
+fn sizes_of(shapes: &[Shape]) -> u16
+    requires { sizes (members (map tree shapes.now)) < 2 ^ 16 }
+    ensures { result ≡ sizes (members (map tree shapes.now)) }
+{
+    let mut sum = 0;
+    for shape in shapes {
+        sum += size_of(shape);
+    }
+    sum
+}
+
+/// Adds the flat form of the value that stands there.
+#[cycle(gather)]
+pub fn gather(
+    heap: &Heap,
+    entries: &[TocEntry],
+    shape: &Shape,
+    at: Place,
+    into: &mut Nums,
+) -> Result<(), NoMemory>
+    requires pool { footprint heap.now ≤ pool_size }
+    requires home { IsHome heap.now at.home }
+    requires entries { at.entry + size (tree shape.now) < 2 ^ 16 }
+    requires holds { HoldsThere entries.now heap.now (tree shape.now) at }
+    ensures { OnOk result (into.new ≡ into.old ++ flat (value_there entries.now heap.now (tree shape.now) at)) }
+{
+    match shape {
+        Shape::Void | Shape::Mutex => into.push(0),
+        Shape::Num(kind) => {
+            let place = leaf_place(entries, at.entry, at.base);
+            into.push(number_at(heap, at.home, place, *kind))
+        }
+        Shape::List(stride, element) => {
+            let elements = elements_at(heap, entries, *stride, at);
+            into.push(i64::from(elements.count))?;
+            for k in 0..elements.count {
+                gather(heap, entries, element, elements.place(k), into)?;
+            }
+            Ok(())
+        }
+        Shape::Group(members) => {
+            gather_members(heap, entries, members.items.as_slice(), at.inside(), into)
+        }
+    }
+}
+
+// Adds the flat forms of the values whose first begins there.
+#[cycle(gather)]
+fn gather_members(
+    heap: &Heap,
+    entries: &[TocEntry],
+    shapes: &[Shape],
+    at: Place,
+    into: &mut Nums,
+) -> Result<(), NoMemory>
+    requires pool { footprint heap.now ≤ pool_size }
+    requires home { IsHome heap.now at.home }
+    requires entries { at.entry + sizes (members (map tree shapes.now)) < 2 ^ 16 }
+    requires holds { HoldAllThere entries.now heap.now (members (map tree shapes.now)) at }
+    ensures { OnOk result (into.new ≡ into.old ++ flats (values (values_there entries.now heap.now (members (map tree shapes.now)) at))) }
+{
+    let mut entry = at.entry;
+    for shape in shapes {
+        gather(heap, entries, shape, at.member(entry), into)?;
+        entry += size_of(shape);
+    }
+    Ok(())
+}

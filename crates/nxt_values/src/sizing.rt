@@ -1,0 +1,140 @@
+// How many lists stand in values, and how many bytes of the pool they take.
+
+ghost use Rattle.std.specs.Prelude.{◌≡◌, ◌<◌, ◌≤◌, ◌+◌, ◌*◌, ◌^◌, length, drop, map, nat_abs};
+ghost use Rattle.nxt_types.specs.Shapes.{tree, members};
+ghost use Rattle.nxt_types.specs.Names.{size, sizes};
+ghost use Rattle.nxt_types.specs.Pool.{pool_size, round4 as rounded};
+ghost use Rattle.nxt_heap.specs.Lists.{footprint};
+ghost use Rattle.nxt_values.specs.Homes.{IsHome, HoldsThere, HoldAllThere};
+ghost use Rattle.nxt_values.specs.Fills.{filled, all_filled};
+ghost use Rattle.nxt_values.specs.Sizes.{IsCountable, size_of_filled, size_of_all_filled, size_there, sizes_there};
+
+use crate::elements::elements_at;
+use crate::reading::{Place, size_of};
+use crate::writing::{behind, first_count};
+use nxt_heap::Heap;
+use nxt_types::pool::round4;
+use nxt_types::shape::{Shape, TocEntry};
+
+/// How many lists there are, and how many bytes of the pool they take, each list's rounded up to a multiple of 4.
+#[derive(Clone, Copy, PartialEq, Eq, Debug)]
+pub struct Size {
+    pub lists: u64,
+    pub bytes: u64,
+}
+
+/// Of no lists.
+pub const NONE: Size = Size { lists: 0, bytes: 0 };
+
+impl Size {
+    /// Both together.
+    pub fn plus(self, other: Size) -> Size
+        requires lists { self.lists + other.lists < 2 ^ 64 }
+        requires bytes { self.bytes + other.bytes < 2 ^ 64 }
+        ensures { result ≡ record { lists = self.lists + other.lists; bytes = self.bytes + other.bytes } }
+    {
+        Size {
+            lists: self.lists + other.lists,
+            bytes: self.bytes + other.bytes,
+        }
+    }
+
+    /// With a list around, of so many elements, each so many bytes behind the one before it.
+    pub fn in_list(self, count: u64, stride: u32) -> Size
+        requires lists { self.lists + 1 < 2 ^ 64 }
+        requires bytes { self.bytes + rounded (count * stride) < 2 ^ 64 }
+        ensures { result ≡ record { lists = self.lists + 1; bytes = rounded (count * stride) + self.bytes } }
+    {
+        let own = round4(count * u64::from(stride));
+        Size {
+            lists: self.lists + 1,
+            bytes: own + self.bytes,
+        }
+    }
+}
+
+/// The size of the value that stands there.
+#[cycle(held)]
+pub fn held_size(heap: &Heap, entries: &[TocEntry], shape: &Shape, at: Place) -> Size
+    requires pool { footprint heap.now ≤ pool_size }
+    requires home { IsHome heap.now at.home }
+    requires entries { at.entry + size (tree shape.now) < 2 ^ 16 }
+    requires holds { HoldsThere entries.now heap.now (tree shape.now) at }
+    requires countable { IsCountable (size_there entries.now heap.now (tree shape.now) at) }
+    ensures { result ≡ size_there entries.now heap.now (tree shape.now) at }
+{
+    match shape {
+        Shape::Void | Shape::Mutex | Shape::Num(_) => NONE,
+        Shape::List(stride, element) => {
+            let elements = elements_at(heap, entries, *stride, at);
+            let mut inner = NONE;
+            for k in 0..elements.count {
+                inner = inner.plus(held_size(heap, entries, element, elements.place(k)));
+            }
+            inner.in_list(u64::from(elements.count), elements.stride)
+        }
+        Shape::Group(members) => {
+            held_sizes(heap, entries, members.items.as_slice(), at.inside())
+        }
+    }
+}
+
+// The size of the values whose first begins there.
+#[cycle(held)]
+fn held_sizes(heap: &Heap, entries: &[TocEntry], shapes: &[Shape], at: Place) -> Size
+    requires pool { footprint heap.now ≤ pool_size }
+    requires home { IsHome heap.now at.home }
+    requires entries { at.entry + sizes (members (map tree shapes.now)) < 2 ^ 16 }
+    requires holds { HoldAllThere entries.now heap.now (members (map tree shapes.now)) at }
+    requires countable { IsCountable (sizes_there entries.now heap.now (members (map tree shapes.now)) at) }
+    ensures { result ≡ sizes_there entries.now heap.now (members (map tree shapes.now)) at }
+{
+    let mut sum = NONE;
+    let mut entry = at.entry;
+    for shape in shapes {
+        sum = sum.plus(held_size(heap, entries, shape, at.member(entry)));
+        entry += size_of(shape);
+    }
+    sum
+}
+
+/// The size of the value that the numbers begin with, and the numbers behind it.
+#[cycle(spelled)]
+pub fn spelled_size<'a>(shape: &Shape, from: &'a [i64]) -> (Size, &'a [i64])
+    requires { IsCountable (size_of_filled (tree shape.now) from.now) }
+    ensures size { result.0 ≡ size_of_filled (tree shape.now) from.now }
+    ensures rest { result.1.now ≡ (filled (tree shape.now) from.now).1 }
+{
+    match shape {
+        Shape::Void | Shape::Mutex | Shape::Num(_) => (NONE, behind(from)),
+        Shape::List(stride, element) => {
+            let count = first_count(from);
+            let mut inner = NONE;
+            let mut left = behind(from);
+            for _ in 0..count {
+                let (one, rest) = spelled_size(element, left);
+                inner = inner.plus(one);
+                left = rest;
+            }
+            (inner.in_list(count, *stride), left)
+        }
+        Shape::Group(members) => spelled_sizes(members.items.as_slice(), from),
+    }
+}
+
+/// The size of the values that the numbers begin with, and the numbers behind them.
+#[cycle(spelled)]
+pub fn spelled_sizes<'a>(shapes: &[Shape], from: &'a [i64]) -> (Size, &'a [i64])
+    requires { IsCountable (size_of_all_filled (members (map tree shapes.now)) from.now) }
+    ensures size { result.0 ≡ size_of_all_filled (members (map tree shapes.now)) from.now }
+    ensures rest { result.1.now ≡ (all_filled (members (map tree shapes.now)) from.now).1 }
+{
+    let mut sum = NONE;
+    let mut left = from;
+    for shape in shapes {
+        let (one, rest) = spelled_size(shape, left);
+        sum = sum.plus(one);
+        left = rest;
+    }
+    (sum, left)
+}
