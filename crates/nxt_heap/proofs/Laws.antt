@@ -4,3 +4,5 @@
 pub mod Lengths
 -- What a heap takes of the pool, where one list changes.
 pub mod Footprints
+-- Items that stand at a place of a list.
+pub mod PutAt

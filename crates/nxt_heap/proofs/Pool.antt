@@ -8,5 +8,5 @@ pub mod PlacesWritten
 pub mod Steps
 -- A pool after one block has got another size and the blocks behind it have moved.
 pub mod Resized
--- A byte of a list is written.
-pub mod ByteWritten
+-- Bytes of a list are written.
+pub mod BytesWritten

@@ -1,6 +1,7 @@
 -- The heap as its callers see it: static bytes, and byte lists by row.
 use Rattle.std.specs.Prelude.{◌≡◌, ℕ, ◌+◌, ◌-◌, ◌*◌, ◌<◌, Bool, false, List, [], ◌∷◌, ◌++◌, length, take, replicate, sum_by, slice_set, slice_index_or, Option, Some, None, is_none, IsSome, if◌then◌else◌}
 use Rattle.std.specs.List.{list_any}
+use Rattle.nxt_heap.specs.PutAt.{put_at}
 use Rattle.nxt_types.specs.Pool.{round4, pool_size}
 
 -- the bytes of a list whose elements are `stride` bytes apart
@@ -69,9 +70,9 @@ of_length n bytes = take n bytes ++ replicate (n - length bytes) 0
 abbrev pub with_length : Lists → ℕ → ℕ → Lists
 with_length h row n = with_list h row (Some (record { stride = stride_at h row; bytes = of_length n (bytes_at h row) }))
 
--- the row's list has this byte at that place
-abbrev pub with_byte : Lists → ℕ → ℕ → ℕ → Lists
-with_byte h row at b = with_list h row (Some (record { stride = stride_at h row; bytes = slice_set (bytes_at h row) at b }))
+-- the row's list has these bytes from that place on
+abbrev pub with_bytes : Lists → ℕ → ℕ → List ℕ → Lists
+with_bytes h row at bytes = with_list h row (Some (record { stride = stride_at h row; bytes = put_at at bytes (bytes_at h row) }))
 
 abbrev pub empty_list : ℕ → Option ByteList
 empty_list stride = Some (record { stride = stride; bytes = [] })

@@ -2,10 +2,11 @@
 
 ghost use Rattle.std.specs.Prelude.{◌≡◌, ◌≢◌, ◌+◌, ◌-◌, ◌*◌, ◌%◌, ◌<◌, ◌≤◌, ◌^◌, ℕ, [], ◌∷◌, ◌++◌, length, replicate, slice_index, slice_set, take, drop, IfOk, IfErr, OnErr, None, ◌==◌, if◌then◌else◌};
 ghost use Rattle.std.specs.List.{SameBelow, SameFrom};
+ghost use Rattle.nxt_heap.specs.PutAt.{put_at};
 ghost use Rattle.nxt_types.specs.Pool.{round4 as rounded, pool_size};
 ghost use Rattle.nxt_rows.specs.Rows.{dope_row, row_count, no_place, free_rows};
 ghost use Rattle.nxt_heap.specs.Lists.{empty_list};
-ghost use Rattle.nxt_heap.specs.Inside.Pool.{row_bytes as bytes_in_row, row_block, start_of, end_of, row_in_place, lists_in, lists_with_length, lists_with_byte, Takes, IsFull, IsDense};
+ghost use Rattle.nxt_heap.specs.Inside.Pool.{row_bytes as bytes_in_row, row_block, start_of, end_of, row_in_place, lists_in, lists_with_length, lists_with_bytes, Takes, IsFull, IsDense};
 
 use crate::passed::PoolPassed;
 use nxt_rows::{DopeRow, NO_PLACE, free_row, get, set, take_row};
@@ -179,20 +180,31 @@ fn window(pool: &[u8], at: usize, bytes: usize) -> &[u8]
     &pool[at..at + bytes]
 }
 
-/// Stores a byte of a row's list.
-pub fn write_byte(pool: &mut [u8], table: u32, row: u16, at: u32, b: u8)
+/// Stores bytes of a row's list from a place on.
+pub fn write_bytes(pool: &mut [u8], table: u32, row: u16, at: u32, bytes: &[u8])
     requires dense { IsDense pool.old table }
     requires above { 0 < row }
     requires within { row < row_count pool.old table }
     requires alive { (dope_row pool.old table row).stride ≢ 0 }
-    requires at { at < bytes_in_row (dope_row pool.old table row) }
+    requires at { at + length bytes.now ≤ bytes_in_row (dope_row pool.old table row) }
     ensures dense { IsDense pool.new table }
-    ensures lists { lists_in pool.new table ≡ lists_with_byte pool.old table row at b }
+    ensures lists { lists_in pool.new table ≡ lists_with_bytes pool.old table row at bytes.now }
     ensures end { end_of pool.new table ≡ end_of pool.old table }
     ensures below { SameBelow pool.old pool.new table }
 {
+    if bytes.is_empty() {
+        return;
+    }
     let found = get(pool, table, row);
-    pool[found.place as usize + at as usize] = b;
+    put(pool, found.place as usize + at as usize, bytes);
+}
+
+/// Stores bytes from a place on.
+pub fn put(pool: &mut [u8], at: usize, bytes: &[u8])
+    requires { at + length bytes.now ≤ length pool.old }
+    ensures { pool.new ≡ put_at at bytes.now pool.old }
+{
+    pool[at..at + bytes.len()].copy_from_slice(bytes);
 }
 
 /// Frees a row and the bytes of its list, where `end` is the end of the last block.

@@ -1,11 +1,12 @@
-ghost use Rattle.std.specs.Prelude.{◌≡◌, ◌+◌, ◌*◌, ◌<◌, ◌≤◌, ℕ, length, slice_index, slice_set, OnOk, OnErr, IfErr, IfOk, IfSome, ◌%◌, None};
+ghost use Rattle.std.specs.Prelude.{◌≡◌, ◌+◌, ◌*◌, ◌<◌, ◌≤◌, ℕ, length, OnOk, OnErr, IfErr, IfOk, IfSome, ◌%◌, None};
+ghost use Rattle.nxt_heap.specs.PutAt.{put_at};
 ghost use Rattle.nxt_types.specs.Pool.{round4 as rounded, pool_size};
 ghost use Rattle.nxt_heap.specs.Dumps.{HoldHeap};
-ghost use Rattle.nxt_heap.specs.Lists.{IsAlive, list_at, stride_at, bytes_at, table_of, footprint, Passes, IsFree, with_free, with_free_row, empty_list, zero_heap, with_list, with_length, with_byte};
+ghost use Rattle.nxt_heap.specs.Lists.{IsAlive, list_at, stride_at, bytes_at, table_of, footprint, Passes, IsFree, with_free, with_free_row, empty_list, zero_heap, with_list, with_length, with_bytes};
 ghost use Rattle.nxt_heap.specs.Inside.Pool.{Shows, state_of, IsHeap};
 
 use crate::blocks::{
-    block_bytes, free_block, lay_out, new_list, resize_block, row_bytes, write_byte,
+    block_bytes, free_block, lay_out, new_list, put, resize_block, row_bytes, write_bytes,
 };
 use crate::passed::PoolPassed;
 use nxt_rows::get;
@@ -61,20 +62,19 @@ impl Heap {
         self.end = start(&mut self.pool, self.static_size, rows);
     }
 
-    /// The static byte at this place.
-    pub fn byte(&self, at: u32) -> u8
-        requires { at < length self.now.static_bytes }
-        ensures { result ≡ slice_index self.now.static_bytes at }
+    /// The static bytes.
+    pub fn static_bytes(&self) -> &[u8]
+        ensures { result.now ≡ self.now.static_bytes }
     {
-        self.pool[at as usize]
+        &self.pool[..self.static_size as usize]
     }
 
-    /// Stores a static byte.
-    pub fn set_byte(&mut self, at: u32, b: u8)
-        requires { at < length self.old.static_bytes }
-        ensures { self.new ≡ record self.old { static_bytes = slice_set self.old.static_bytes at b } }
+    /// Stores static bytes from a place on.
+    pub fn set_static(&mut self, at: u32, bytes: &[u8])
+        requires { at + length bytes.now ≤ length self.old.static_bytes }
+        ensures { self.new ≡ record self.old { static_bytes = put_at at bytes.now self.old.static_bytes } }
     {
-        self.pool[at as usize] = b;
+        put(&mut self.pool, at as usize, bytes);
     }
 
     /// Takes a free row for an empty list of elements that are `stride` bytes apart, or adds a row to the table, and gives
@@ -154,13 +154,19 @@ impl Heap {
         row_bytes(&self.pool, table_above(self.static_size), row)
     }
 
-    /// Stores a byte of a list.
-    pub fn write(&mut self, row: u16, at: u32, b: u8)
+    /// Stores bytes of a list from a place on.
+    pub fn write(&mut self, row: u16, at: u32, bytes: &[u8])
         requires alive { IsAlive self.old row }
-        requires at { at < length (bytes_at self.old row) }
-        ensures { self.new ≡ with_byte self.old row at b }
+        requires at { at + length bytes.now ≤ length (bytes_at self.old row) }
+        ensures { self.new ≡ with_bytes self.old row at bytes.now }
     {
-        write_byte(&mut self.pool, table_above(self.static_size), row, at, b);
+        write_bytes(
+            &mut self.pool,
+            table_above(self.static_size),
+            row,
+            at,
+            bytes,
+        );
     }
 
     /// Moves up to `k` blocks down to the end of the block before them, and gives the number of blocks that moved. No block

@@ -46,7 +46,7 @@ fn write_marks(rt: &impl Abort, heap: &mut Heap, row: u16, bytes: u32) {
             Some(_) => {
                 let len = heap.bytes_of(row).len();
                 assert!(rt; (at as usize) < len);
-                heap.write(row, at, mark(row, at as usize));
+                heap.write(row, at, &[mark(row, at as usize)]);
             }
         }
     }
@@ -125,11 +125,12 @@ fn every_block_moves_with_its_bytes(rt: HostRuntime) -> Result<(), Fail> {
 #[test]
 fn a_restart_leaves_zeros_and_free_rows(rt: HostRuntime) -> Result<(), Fail> {
     let mut heap = Heap::new(rt.alloc(), 6, 3)?;
-    heap.set_byte(5, 7);
-    assert_eq!(rt; heap.byte(5), 7);
+    heap.set_static(2, &[5, 6, 7]);
+    assert_eq!(rt; heap.static_bytes(), [0, 0, 5, 6, 7, 0].as_slice());
+    heap.set_static(6, &[]);
     assert_eq!(rt; heap.new_array(1), Ok(1));
     heap.restart(2);
-    assert_eq!(rt; heap.byte(5), 0);
+    assert_eq!(rt; heap.static_bytes(), [0; 6].as_slice());
     assert_eq!(rt; heap.row_count(), 2);
     assert_eq!(rt; heap.table_place(), 8);
     assert_eq!(rt; heap.footprint(), 28);

@@ -38,7 +38,7 @@ pub struct Place {
 }
 
 impl Place {
-    /// Where the first member of the group stands that stands there.
+    /// Where the first member stands of the group that stands there.
     pub fn inside(self) -> Place
         requires { self.entry + 1 < 2 ^ 16 }
         ensures { result ≡ record self { entry = self.entry + 1 } }
@@ -54,44 +54,42 @@ impl Place {
     }
 }
 
-/// A byte.
-pub fn byte_in(heap: &Heap, home: Home, at: u32) -> u8
-    requires home { IsHome heap.now home }
-    requires within { at < length (bytes_in heap.now home) }
-    ensures { result ≡ slice_index (bytes_in heap.now home) at }
+/// The bytes of a home.
+pub fn bytes_at_home(heap: &Heap, home: Home) -> &[u8]
+    requires { IsHome heap.now home }
+    ensures { result.now ≡ bytes_in heap.now home }
 {
     match home {
-        Home::Static => heap.byte(at),
-        Home::Row(row) => heap.bytes_of(row)[at as usize],
+        Home::Static => heap.static_bytes(),
+        Home::Row(row) => heap.bytes_of(row),
     }
 }
 
 /// The number of 16 bits whose low byte is there.
 pub fn row_at(heap: &Heap, home: Home, at: u32) -> u16
-    requires pool { footprint heap.now ≤ pool_size }
     requires home { IsHome heap.now home }
     requires within { at + 2 ≤ length (bytes_in heap.now home) }
     ensures { result ≡ u16_in (bytes_in heap.now home) at }
 {
-    u16::from_le_bytes([byte_in(heap, home, at), byte_in(heap, home, at + 1)])
+    let bytes = bytes_at_home(heap, home);
+    let at = at as usize;
+    u16::from_le_bytes([bytes[at], bytes[at + 1]])
 }
 
 // The bytes of a number as a word.
 fn word_at(heap: &Heap, home: Home, at: u32, kind: Kind) -> u32
-    requires pool { footprint heap.now ≤ pool_size }
     requires home { IsHome heap.now home }
     requires within { at + size_of_leaf kind ≤ length (bytes_in heap.now home) }
     ensures { result ≡ from_le_bytes (width_of kind) (take (size_of_leaf kind) (drop at (bytes_in heap.now home))) }
 {
+    let bytes = bytes_at_home(heap, home);
+    let at = at as usize;
     match kind {
-        Kind::Ubyte | Kind::Sbyte => u32::from(byte_in(heap, home, at)),
-        Kind::Uword | Kind::Sword => u32::from(row_at(heap, home, at)),
-        Kind::Ulong | Kind::Slong => u32::from_le_bytes([
-            byte_in(heap, home, at),
-            byte_in(heap, home, at + 1),
-            byte_in(heap, home, at + 2),
-            byte_in(heap, home, at + 3),
-        ]),
+        Kind::Ubyte | Kind::Sbyte => u32::from(bytes[at]),
+        Kind::Uword | Kind::Sword => u32::from(u16::from_le_bytes([bytes[at], bytes[at + 1]])),
+        Kind::Ulong | Kind::Slong => {
+            u32::from_le_bytes([bytes[at], bytes[at + 1], bytes[at + 2], bytes[at + 3]])
+        }
     }
 }
 

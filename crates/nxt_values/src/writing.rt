@@ -31,27 +31,15 @@ impl From<PoolPassed> for Full {
     }
 }
 
-/// Stores a byte.
-pub fn set_byte(heap: &mut Heap, home: Home, at: u32, b: u8)
-    requires home { IsHome heap.old home }
-    requires within { at < length (bytes_in heap.old home) }
-    ensures { heap.new ≡ with_bytes heap.old home (slice_set (bytes_in heap.old home) at b) }
-{
-    match home {
-        Home::Static => heap.set_byte(at, b),
-        Home::Row(row) => heap.write(row, at, b),
-    }
-}
-
 // Stores bytes from a place on.
 fn set_bytes(heap: &mut Heap, home: Home, at: u32, bytes: &[u8])
     requires home { IsHome heap.old home }
     requires within { at + length bytes.now ≤ length (bytes_in heap.old home) }
-    requires small { length (bytes_in heap.old home) < 2 ^ 32 }
     ensures { heap.new ≡ with_bytes heap.old home (put bytes.now at (bytes_in heap.old home)) }
 {
-    for k in 0..bytes.len() {
-        set_byte(heap, home, at + k as u32, bytes[k]);
+    match home {
+        Home::Static => heap.set_static(at, bytes),
+        Home::Row(row) => heap.write(row, at, bytes),
     }
 }
 
@@ -181,12 +169,8 @@ fn open_list(
     let count = count as u32;
     let row = heap.new_array(stride as u16)?;
     heap.resize(row, count * stride)?;
-    set_row(
-        heap,
-        list.home,
-        leaf_place(entries, list.entry, list.base),
-        row,
-    );
+    let place = leaf_place(entries, list.entry, list.base);
+    set_row(heap, list.home, place, row);
     Ok(Elements {
         row,
         count,

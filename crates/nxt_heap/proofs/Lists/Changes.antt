@@ -7,8 +7,8 @@ use Rattle.std.specs.List.{SameBelow}
 use Rattle.nxt_types.specs.Pool.{round4}
 use Rattle.nxt_heap.proofs.Laws.Footprints.{footprint-with_list}
 use Rattle.nxt_rows.specs.Rows.{dope_row, row_count}
-use Rattle.nxt_heap.specs.Lists.{ByteList, Lists, list_at, block_of, footprint, with_list, with_length, of_length, stride_at, bytes_at, with_byte, IsFree, any_free, with_free, with_free_row, empty_list}
-use Rattle.nxt_heap.specs.Inside.Pool.{row_bytes, row_block, list_in, lists_in, state_of, lists_with_length, lists_with_byte, end_of, IsDense}
+use Rattle.nxt_heap.specs.Lists.{ByteList, Lists, list_at, block_of, footprint, with_list, with_length, of_length, stride_at, bytes_at, with_bytes, IsFree, any_free, with_free, with_free_row, empty_list}
+use Rattle.nxt_heap.specs.Inside.Pool.{row_bytes, row_block, list_in, lists_in, state_of, lists_with_length, lists_with_bytes, end_of, IsDense}
 use Rattle.nxt_heap.proofs.Rows.Free.{with_free-full}
 use Rattle.nxt_heap.proofs.Pool.Places.{same_window, row_block-is, length-bytes}
 use Rattle.nxt_types.proofs.Laws.Pool.{le-round4}
@@ -79,10 +79,10 @@ footprint-with_length pool static_size row bytes d l =
     let has : block_of next ≡ round4 bytes = ap round4 (length-of_length bytes (bytes_at h row)) in
     omega (arith, whole, had, has, footprint-state static_size pool d)
 
-pub state-with_byte : (xs ys : List ℕ) (static_size row at b : ℕ) → Lives xs (round4 static_size) row
-    → take static_size ys ≡ take static_size xs → lists_in ys (round4 static_size) ≡ lists_with_byte xs (round4 static_size) row at b
-    → state_of static_size ys ≡ with_byte (state_of static_size xs) row at b
-state-with_byte xs ys static_size row at b l static lists = rw (static, lists, l.is) refl
+pub state-with_bytes : (xs ys : List ℕ) (static_size row at : ℕ) (bs : List ℕ) → Lives xs (round4 static_size) row
+    → take static_size ys ≡ take static_size xs → lists_in ys (round4 static_size) ≡ lists_with_bytes xs (round4 static_size) row at bs
+    → state_of static_size ys ≡ with_bytes (state_of static_size xs) row at bs
+state-with_bytes xs ys static_size row at bs l static lists = rw (static, lists, l.is) refl
 
 -- ---- a row more
 

@@ -2,6 +2,7 @@
 -- order of the rows and without gaps.
 use Rattle.std.specs.Prelude.{◌≡◌, ℕ, zero, suc, ◌+◌, ◌*◌, ◌<◌, ◌≤◌, false, List, length, take, drop, map, nat_eq, slice_set, Option, Some, None, if◌then◌else◌, ◌==◌}
 use Rattle.std.specs.List.{list_any, range_with_len, SameBelow}
+use Rattle.nxt_heap.specs.PutAt.{put_at}
 use Rattle.nxt_types.specs.Pool.{round4, pool_size}
 use Rattle.nxt_rows.specs.Rows.{dope_row, row_count, free_rows, IsFreeChain, no_place}
 use Rattle.nxt_rows.specs.declared.DopeRow.{DopeRow}
@@ -68,13 +69,13 @@ lists_with_length pool table row bytes =
       bytes = of_length bytes (take (row_bytes found) (drop found.place pool));
     }))
 
--- the lists with this byte in this row's list
-abbrev pub lists_with_byte : List ℕ → ℕ → ℕ → ℕ → ℕ → List (Option ByteList)
-lists_with_byte pool table row at b =
+-- the lists with these bytes in this row's list
+abbrev pub lists_with_bytes : List ℕ → ℕ → ℕ → ℕ → List ℕ → List (Option ByteList)
+lists_with_bytes pool table row at bytes =
     let found = dope_row pool table row in
     slice_set (lists_in pool table) row (Some (record {
       stride = found.stride;
-      bytes = slice_set (take (row_bytes found) (drop found.place pool)) at b;
+      bytes = put_at at bytes (take (row_bytes found) (drop found.place pool));
     }))
 
 -- rows lie without gaps from the table's place on, and the free rows are the chain

@@ -5,6 +5,8 @@ use Rattle.std.proofs.lemmas.List.{length-set, set-get_or, get_or-set_same, get_
 use Rattle.std.proofs.lemmas.Nat.{from_le_bytes-to_le_bytes_2, from_le_bytes-to_le_bytes_4}
 use Rattle.std.specs.Prelude.{ℤ, pos, negsuc}
 use Rattle.std.specs.Int.{w8, w16, w32, cast_signed, from_le_bytes, to_le_bytes}
+use Rattle.nxt_heap.specs.PutAt.{put_at}
+use Rattle.nxt_heap.proofs.Laws.PutAt.{put_at-none, put_at-more}
 use Rattle.nxt_types.specs.Arithmetic.{width_of, leaf_size, word, cut, extend}
 use Rattle.nxt_types.specs.declared.kind.Kind.{Kind}
 use Rattle.nxt_types.specs.declared.kind.Kind.TheVariants.{Ubyte, Sbyte, Uword, Sword, Ulong, Slong}
@@ -69,38 +71,11 @@ pub length-put : (bs : List ℕ) (at : ℕ) (xs : List ℕ) → length (put bs a
 length-put [] at xs = refl
 length-put (b ∷ bs) at xs = length-put bs (at + 1) (set xs at b) ∙ length-set xs at b
 
-put_end : (bs : List ℕ) (b at : ℕ) (xs : List ℕ) → put (bs ++ b ∷ []) at xs ≡ set (put bs at xs) (at + length bs) b
-put_end [] b at xs = let e : at ≡ at + 0 = omega arith in ap (λ n. set xs n b) e
-put_end (c ∷ bs) b at xs =
-    let e : (at + 1) + length bs ≡ at + length (c ∷ bs) = omega arith in
-    put_end bs b (at + 1) (set xs at c) ∙ ap (λ n. set (put bs (at + 1) (set xs at c)) n b) e
-
-put_more : (bs : List ℕ) (k at : ℕ) (xs : List ℕ) → k < length bs → put (take (k + 1) bs) at xs ≡ set (put (take k bs) at xs) (at + k) (get_or bs k 0)
-put_more bs k at xs less =
-    ap (λ cs. put cs at xs) (take_more bs k 0 less)
-    ∙ put_end (take k bs) (get_or bs k 0) at xs
-    ∙ ap (λ n. set (put (take k bs) at xs) (at + n) (get_or bs k 0)) (length-take-le k bs (omega (arith, less)))
-
--- one more byte is stored behind the first k
-pub stored_more : (h g : Lists) (home : Home) (bs : List ℕ) (at k : ℕ) → IsHome h home → k < length bs → g ≡ with_bytes h home (put (take k bs) at (bytes_in h home)) → with_bytes g home (set (bytes_in g home) (at + k) (get_or bs k 0)) ≡ with_bytes h home (put (take (k + 1) bs) at (bytes_in h home))
-stored_more h g home bs at k there less e =
-    let xs = put (take k bs) at (bytes_in h home) in
-    let b = get_or bs k 0 in
-    ap (λ f. with_bytes f home (set (bytes_in f home) (at + k) b)) e
-    ∙ ap (λ ys. with_bytes (with_bytes h home xs) home (set ys (at + k) b)) (bytes_with h home xs there)
-    ∙ with_twice h home xs (set xs (at + k) b) there
-    ∙ ap (with_bytes h home) (sym (put_more bs k at (bytes_in h home) less))
-
-pub home_stored : (h g : Lists) (home : Home) (bs : List ℕ) (at : ℕ) → IsHome h home → g ≡ with_bytes h home (put bs at (bytes_in h home)) → IsHome g home × (length (bytes_in g home) ≡ length (bytes_in h home))
-home_stored h g home bs at there e =
-    let xs = put bs at (bytes_in h home) in (
-      subst (λ f. IsHome f home) (sym e) (home_with h home xs there),
-      ap (λ f. length (bytes_in f home)) e ∙ ap length (bytes_with h home xs there) ∙ length-put bs at (bytes_in h home),
-    )
-
-pub stored_all : (h g : Lists) (home : Home) (bs : List ℕ) (at k : ℕ) → k ≡ length bs → g ≡ with_bytes h home (put (take k bs) at (bytes_in h home)) → g ≡ with_bytes h home (put bs at (bytes_in h home))
-stored_all h g home bs at k end e =
-    e ∙ ap (λ n. with_bytes h home (put (take n bs) at (bytes_in h home))) end ∙ ap (λ cs. with_bytes h home (put cs at (bytes_in h home))) (take-length bs)
+-- where they fit, they stand between what is before and behind them
+pub put-is : (bs : List ℕ) (at : ℕ) (xs : List ℕ) → at + length bs ≤ length xs → put_at at bs xs ≡ put bs at xs
+put-is [] at xs fits = put_at-none at xs
+put-is (b ∷ bs) at xs fits =
+    put_at-more b bs at xs fits ∙ put-is bs (at + 1) (set xs at b) (omega (arith, fits, length-set xs at b))
 
 -- ---- bytes that are read back
 

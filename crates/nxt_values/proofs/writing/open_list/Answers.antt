@@ -23,7 +23,7 @@ set_row-requires-clause-within c =
     let n = c.args.count * c.args.stride in
     let made = made_long c.args.heap.now c.new_array.new.self c.resize.new.self c.in_ok-row.row c.args.stride n c.in_ok-row.ensures.free c.in_ok-row.ensures.ok c.in_ok-resize.ensures.ok in
     let same = home_taken c.args.heap.now c.resize.new.self c.args.list.home c.in_ok-row.row c.args.stride n c.requires.home c.in_ok-row.ensures.free made in
-    omega (arith, c.requires.within, c.leaf_place.ensures, ap length same.1)
+    omega (arith, c.requires.within, c.leaf_place-place.ensures, ap length same.1)
 
 pub returns-clause-opened : goal.returns-clause-opened
 returns-clause-opened c =
@@ -40,7 +40,7 @@ returns-clause-opened c =
       opened = record {
         free = c.in_ok-row.ensures.free;
         is = c.set_row.ensures
-            ∙ ap (λ p. with_bytes c.resize.new.self home (put bs p (bytes_in c.resize.new.self home))) c.leaf_place.ensures
+            ∙ ap (λ p. with_bytes c.resize.new.self home (put bs p (bytes_in c.resize.new.self home))) c.leaf_place-place.ensures
             ∙ ap (λ xs. with_bytes c.resize.new.self home (put bs at xs)) same.1
             ∙ ap (λ g. with_bytes g home (put bs at (bytes_in h home))) made;
       };
