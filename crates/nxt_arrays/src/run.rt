@@ -50,8 +50,8 @@ pub fn run_array(
     toc: &Toc,
     space: &mut Space,
 ) -> Result<(), OpFault>
-    requires { CanRun i.now words.now toc.now space.old }
-    ensures { (d : Devices) (t : Clock) → Does Done (values_after space.old i.now words.now d t) space.old result space.new }
+    requires { CanRun i.now words.now toc.now space.old.vars }
+    ensures { (d : Devices) (t : Clock) → Does Done (values_after space.old.vars i.now words.now d t) space.old result space.new }
 {
     match i.op {
         Op::Index => index(alloc, space, i.a, i.b, i.c),

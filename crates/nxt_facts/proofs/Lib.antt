@@ -7,3 +7,4 @@ pub mod Tests
 pub mod Either
 pub mod Least
 pub mod Places
+pub mod PutAt

@@ -1,3 +1,4 @@
 pub mod Pairs
 pub mod Sums
 pub mod Places
+pub mod PutAt

@@ -4,5 +4,3 @@
 pub mod Lengths
 -- What a heap takes of the pool, where one list changes.
 pub mod Footprints
--- Items that stand at a place of a list.
-pub mod PutAt

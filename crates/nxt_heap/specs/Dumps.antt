@@ -1,6 +1,6 @@
 -- How bytes hold a heap, by rows as the memory of a file has them.
-use Rattle.std.specs.Prelude.{◌≡◌, ℕ, ◌+◌, ◌*◌, ◌<◌, ◌≤◌, List, [], length, take, drop, Some}
-use Rattle.nxt_model.specs.Reading.{DopeRow, dope_row}
+use Rattle.std.specs.Prelude.{◌≡◌, ◌≢◌, ℕ, ◌+◌, ◌*◌, ◌<◌, ◌≤◌, List, [], length, take, drop, Some}
+use Rattle.nxt_model.specs.Reading.{DopeRow, dope_row, Block, AreApart}
 use Rattle.nxt_heap.specs.Lists.{ByteList, Lists, list_at}
 
 -- the row of that number in a table at this place
@@ -33,16 +33,18 @@ pub record IsFilled (bytes : List ℕ) (table r : ℕ) : Type 0 where
 abbrev pub place_of : List ℕ → ℕ → ℕ → ℕ
 place_of bytes table r = (row_of bytes table r).place
 
--- where the elements of a row end
-abbrev pub end_of : List ℕ → ℕ → ℕ → ℕ
-end_of bytes table r = place_of bytes table r + (row_of bytes table r).count * (row_of bytes table r).stride
+-- the bytes of a row's elements, and those of the table
+abbrev pub row_block : List ℕ → ℕ → ℕ → Block
+row_block bytes table r = record { place = place_of bytes table r; bytes = (row_of bytes table r).count * (row_of bytes table r).stride }
 
--- the static bytes come first, and the lists stand by their rows, each behind the table and above the lists of the rows
--- before
+abbrev pub table_block : List ℕ → ℕ → Block
+table_block bytes table = record { place = table; bytes = 10 * rows_of bytes table }
+
+-- the static bytes come first, the lists stand by their rows, and no two of the table and the lists share a byte
 pub record HoldHeap (bytes : List ℕ) (table : ℕ) (h : Lists) : Type 0 where
   pub static : StandAt bytes 0 h.static_bytes
   pub rows : rows_of bytes table ≡ length h.by_row
   pub fits : table + 10 * rows_of bytes table ≤ length bytes
   pub lists : (r : ℕ) (l : ByteList) → list_at h r ≡ Some l → IsRowOf bytes table r l
-  pub behind : (r : ℕ) → IsFilled bytes table r → table + 10 * rows_of bytes table ≤ place_of bytes table r
-  pub apart : (q r : ℕ) → q < r → IsFilled bytes table q → IsFilled bytes table r → end_of bytes table q ≤ place_of bytes table r
+  pub from_table : (r : ℕ) → IsFilled bytes table r → AreApart (table_block bytes table) (row_block bytes table r)
+  pub apart : (q r : ℕ) → q ≢ r → IsFilled bytes table q → IsFilled bytes table r → AreApart (row_block bytes table q) (row_block bytes table r)

@@ -1,4 +1,3 @@
 pub mod Dumps
 pub mod Lists
 pub mod Inside
-pub mod PutAt

@@ -1,7 +1,7 @@
 -- The heap as its callers see it: static bytes, and byte lists by row.
 use Rattle.std.specs.Prelude.{◌≡◌, ℕ, ◌+◌, ◌-◌, ◌*◌, ◌<◌, Bool, false, List, [], ◌∷◌, ◌++◌, length, take, replicate, sum_by, slice_set, slice_index_or, Option, Some, None, is_none, IsSome, if◌then◌else◌}
 use Rattle.std.specs.List.{list_any}
-use Rattle.nxt_heap.specs.PutAt.{put_at}
+use Rattle.nxt_facts.specs.PutAt.{put_at}
 use Rattle.nxt_types.specs.Pool.{round4, pool_size}
 
 -- the bytes of a list whose elements are `stride` bytes apart
@@ -13,6 +13,16 @@ pub record ByteList : Type 0 where
 pub record Lists : Type 0 where
   pub static_bytes : List ℕ
   pub by_row : List (Option ByteList)
+
+-- the bytes of a pool, and where its table of rows stands
+pub record Pool : Type 0 where
+  pub bytes : List ℕ
+  pub table : ℕ
+
+-- a heap is seen as its lists, and as the pool that holds them
+pub record HeapViews : Type 0 where
+  pub lists : Lists
+  pub pool : Pool
 
 -- the list of a row
 abbrev pub list_at : Lists → ℕ → Option ByteList
@@ -69,6 +79,10 @@ of_length n bytes = take n bytes ++ replicate (n - length bytes) 0
 -- the row's list has that many bytes
 abbrev pub with_length : Lists → ℕ → ℕ → Lists
 with_length h row n = with_list h row (Some (record { stride = stride_at h row; bytes = of_length n (bytes_at h row) }))
+
+-- the row's list has these bytes
+abbrev pub with_these : Lists → ℕ → List ℕ → Lists
+with_these h row bytes = with_list h row (Some (record { stride = stride_at h row; bytes = bytes }))
 
 -- the row's list has these bytes from that place on
 abbrev pub with_bytes : Lists → ℕ → ℕ → List ℕ → Lists

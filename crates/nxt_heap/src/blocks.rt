@@ -2,7 +2,7 @@
 
 ghost use Rattle.std.specs.Prelude.{◌≡◌, ◌≢◌, ◌+◌, ◌-◌, ◌*◌, ◌%◌, ◌<◌, ◌≤◌, ◌^◌, ℕ, [], ◌∷◌, ◌++◌, length, replicate, slice_index, slice_set, take, drop, IfOk, IfErr, OnErr, None, ◌==◌, if◌then◌else◌};
 ghost use Rattle.std.specs.List.{SameBelow, SameFrom};
-ghost use Rattle.nxt_heap.specs.PutAt.{put_at};
+ghost use Rattle.nxt_facts.specs.PutAt.{put_at};
 ghost use Rattle.nxt_types.specs.Pool.{round4 as rounded, pool_size};
 ghost use Rattle.nxt_rows.specs.Rows.{dope_row, row_count, no_place, free_rows};
 ghost use Rattle.nxt_heap.specs.Lists.{empty_list};
@@ -110,9 +110,31 @@ fn placed(row: DopeRow, start: u32) -> DopeRow
     }
 }
 
+// Moves the bytes between two places to another place, through other bytes of which nothing is kept.
+fn shift(pool: &mut [u8], spare: &mut [u8], from: usize, end: usize, to: usize)
+    requires order { from ≤ end }
+    requires end { end ≤ length pool.old }
+    requires fits { to + (end - from) ≤ length pool.old }
+    requires spare { end - from ≤ length spare.old }
+    ensures below { SameBelow pool.old pool.new to }
+    ensures moved { (k : ℕ) → from + k < end → slice_index pool.new (to + k) ≡ slice_index pool.old (from + k) }
+{
+    let bytes = end - from;
+    spare[..bytes].copy_from_slice(&pool[from..end]);
+    pool[to..to + bytes].copy_from_slice(&spare[..bytes]);
+}
+
 /// Moves the bytes from the end of a block to `end` so that the block has room for another number of bytes. The first
 /// `keep` bytes of the block stay, and the others are 0.
-pub fn open_room(pool: &mut [u8], block: Block, keep: usize, room: usize, end: usize)
+pub fn open_room(
+    pool: &mut [u8],
+    spare: &mut [u8],
+    block: Block,
+    keep: usize,
+    room: usize,
+    end: usize,
+)
+    requires spare { end ≤ length spare.old }
     requires keep_old { keep ≤ block.bytes }
     requires keep_new { keep ≤ room }
     requires block { block.start + block.bytes ≤ end }
@@ -123,13 +145,20 @@ pub fn open_room(pool: &mut [u8], block: Block, keep: usize, room: usize, end: u
     ensures moved { (k : ℕ) → block.start + block.bytes + k < end
         → slice_index pool.new (block.start + room + k) ≡ slice_index pool.old (block.start + block.bytes + k) }
 {
-    pool.copy_within(block.start + block.bytes..end, block.start + room);
+    shift(
+        pool,
+        spare,
+        block.start + block.bytes,
+        end,
+        block.start + room,
+    );
     pool[block.start + keep..block.start + room].fill(0);
 }
 
 /// Gives a row's list another number of bytes, where `end` is the end of the last block. The front of the list stays,
 /// new bytes are 0, and the blocks behind it move.
-pub fn resize_block(pool: &mut [u8], table: u32, row: u16, bytes: u32, end: u32)
+pub fn resize_block(pool: &mut [u8], spare: &mut [u8], table: u32, row: u16, bytes: u32, end: u32)
+    requires spare { length spare.old ≡ pool_size }
     requires dense { IsDense pool.old table }
     requires above { 0 < row }
     requires within { row < row_count pool.old table }
@@ -152,7 +181,14 @@ pub fn resize_block(pool: &mut [u8], table: u32, row: u16, bytes: u32, end: u32)
         bytes: round4(had as u64) as usize,
     };
     let room = round4(bytes as u64) as usize;
-    open_room(pool, block, had.min(bytes) as usize, room, end as usize);
+    open_room(
+        pool,
+        spare,
+        block,
+        had.min(bytes) as usize,
+        room,
+        end as usize,
+    );
     let count = (bytes / found.stride as u32) as u16;
     set(pool, table, row, DopeRow { count, ..found });
     place_rows(pool, table);
@@ -199,6 +235,26 @@ pub fn write_bytes(pool: &mut [u8], table: u32, row: u16, at: u32, bytes: &[u8])
     put(pool, found.place as usize + at as usize, bytes);
 }
 
+/// Stores the bytes of a row's list in another one, from its first byte on.
+pub fn copy_bytes(pool: &mut [u8], spare: &mut [u8], table: u32, to: u16, from: u16)
+    requires spare { length spare.old ≡ pool_size }
+    requires dense { IsDense pool.old table }
+    requires above { 0 < to }
+    requires within { to < row_count pool.old table }
+    requires source { from < row_count pool.old table }
+    requires alive { (dope_row pool.old table to).stride ≢ 0 }
+    requires fits { bytes_in_row (dope_row pool.old table from) ≤ bytes_in_row (dope_row pool.old table to) }
+    ensures dense { IsDense pool.new table }
+    ensures lists { lists_in pool.new table ≡ lists_with_bytes pool.old table to 0 (take (bytes_in_row (dope_row pool.old table from)) (drop (dope_row pool.old table from).place pool.old)) }
+    ensures end { end_of pool.new table ≡ end_of pool.old table }
+    ensures below { SameBelow pool.old pool.new table }
+{
+    let bytes = row_bytes(pool, table, from);
+    let count = bytes.len();
+    spare[..count].copy_from_slice(bytes);
+    write_bytes(pool, table, to, 0, &spare[..count]);
+}
+
 /// Stores bytes from a place on.
 pub fn put(pool: &mut [u8], at: usize, bytes: &[u8])
     requires { at + length bytes.now ≤ length pool.old }
@@ -208,7 +264,8 @@ pub fn put(pool: &mut [u8], at: usize, bytes: &[u8])
 }
 
 /// Frees a row and the bytes of its list, where `end` is the end of the last block.
-pub fn free_block(pool: &mut [u8], table: u32, row: u16, end: u32)
+pub fn free_block(pool: &mut [u8], spare: &mut [u8], table: u32, row: u16, end: u32)
+    requires spare { length spare.old ≡ pool_size }
     requires dense { IsDense pool.old table }
     requires above { 0 < row }
     requires within { row < row_count pool.old table }
@@ -219,12 +276,13 @@ pub fn free_block(pool: &mut [u8], table: u32, row: u16, end: u32)
     ensures end { end_of pool.new table + row_block (dope_row pool.old table row) ≡ end }
     ensures below { SameBelow pool.old pool.new table }
 {
-    resize_block(pool, table, row, 0, end);
+    resize_block(pool, spare, table, row, 0, end);
     free_row(pool, table, row);
 }
 
 /// Adds a row with an empty list to the table, where `end` is the end of the last block. The blocks move.
-pub fn add_row(pool: &mut [u8], table: u32, stride: u16, end: u32)
+pub fn add_row(pool: &mut [u8], spare: &mut [u8], table: u32, stride: u16, end: u32)
+    requires spare { length spare.old ≡ pool_size }
     requires dense { IsDense pool.old table }
     requires full { free_rows pool.old table ≡ [] }
     requires stride { 1 ≤ stride }
@@ -243,7 +301,7 @@ pub fn add_row(pool: &mut [u8], table: u32, stride: u16, end: u32)
         bytes: round4(had as u64) as usize,
     };
     let room = round4(had as u64 + ROW_BYTES) as usize;
-    open_room(pool, block, had, room, end as usize);
+    open_room(pool, spare, block, had, room, end as usize);
     let count = rows + 1;
     set(pool, table, 0, DopeRow { count, ..first });
     set(pool, table, rows, DopeRow::empty(stride));
@@ -258,7 +316,14 @@ pub struct Taken {
 }
 
 /// Takes a free row for an empty list, or adds one to the table, where `end` is the end of the last block.
-pub fn new_list(pool: &mut [u8], table: u32, stride: u16, end: u32) -> Result<Taken, PoolPassed>
+pub fn new_list(
+    pool: &mut [u8],
+    spare: &mut [u8],
+    table: u32,
+    stride: u16,
+    end: u32,
+) -> Result<Taken, PoolPassed>
+    requires spare { length spare.old ≡ pool_size }
     requires dense { IsDense pool.old table }
     requires stride { 1 ≤ stride }
     requires end { end ≡ end_of pool.old table }
@@ -268,12 +333,19 @@ pub fn new_list(pool: &mut [u8], table: u32, stride: u16, end: u32) -> Result<Ta
 {
     match take_row(pool, table, stride) {
         Some(row) => Ok(Taken { row, end }),
-        None => add_list(pool, table, stride, end),
+        None => add_list(pool, spare, table, stride, end),
     }
 }
 
 /// Adds a row with an empty list where the pool holds it.
-fn add_list(pool: &mut [u8], table: u32, stride: u16, end: u32) -> Result<Taken, PoolPassed>
+fn add_list(
+    pool: &mut [u8],
+    spare: &mut [u8],
+    table: u32,
+    stride: u16,
+    end: u32,
+) -> Result<Taken, PoolPassed>
+    requires spare { length spare.old ≡ pool_size }
     requires dense { IsDense pool.old table }
     requires full { free_rows pool.old table ≡ [] }
     requires stride { 1 ≤ stride }
@@ -288,7 +360,7 @@ fn add_list(pool: &mut [u8], table: u32, stride: u16, end: u32) -> Result<Taken,
     if footprint > POOL_BYTES {
         return Err(PoolPassed(footprint));
     }
-    add_row(pool, table, stride, end);
+    add_row(pool, spare, table, stride, end);
     let end = footprint as u32;
     Ok(Taken { row, end })
 }

@@ -1,12 +1,13 @@
-ghost use Rattle.std.specs.Prelude.{◌≡◌, ◌+◌, ◌*◌, ◌<◌, ◌≤◌, ℕ, length, OnOk, OnErr, IfErr, IfOk, IfSome, ◌%◌, None};
-ghost use Rattle.nxt_heap.specs.PutAt.{put_at};
+ghost use Rattle.std.specs.Prelude.{◌≡◌, ◌+◌, ◌*◌, ◌++◌, ◌∷◌, [], ◌<◌, ◌≤◌, ℕ, length, OnOk, OnErr, IfErr, IfOk, IfSome, ◌%◌, ◌^◌, None, take};
+ghost use Rattle.nxt_facts.specs.PutAt.{put_at};
 ghost use Rattle.nxt_types.specs.Pool.{round4 as rounded, pool_size};
 ghost use Rattle.nxt_heap.specs.Dumps.{HoldHeap};
-ghost use Rattle.nxt_heap.specs.Lists.{IsAlive, list_at, stride_at, bytes_at, table_of, footprint, Passes, IsFree, with_free, with_free_row, empty_list, zero_heap, with_list, with_length, with_bytes};
+ghost use Rattle.nxt_heap.specs.Lists.{IsAlive, list_at, stride_at, bytes_at, table_of, footprint, Passes, IsFree, with_free, with_free_row, empty_list, zero_heap, with_list, with_length, with_bytes, with_these};
 ghost use Rattle.nxt_heap.specs.Inside.Pool.{Shows, state_of, IsHeap};
 
 use crate::blocks::{
-    block_bytes, free_block, lay_out, new_list, put, resize_block, row_bytes, write_bytes,
+    block_bytes, byte_count, copy_bytes, free_block, lay_out, new_list, put, resize_block,
+    row_bytes, write_bytes,
 };
 use crate::passed::PoolPassed;
 use nxt_rows::get;
@@ -15,26 +16,30 @@ use nxt_types::{Bytes, NoMemory};
 use std::alloc::Global;
 use std::marker::Model;
 
-/// Static bytes and byte lists by row, in a pool of 32,768 bytes.
+/// Static bytes and byte lists by row, in a pool of 32,768 bytes. Contracts see both: the lists, and the pool's bytes with
+/// the place of the table.
 ///
 /// The static bytes stand first, then the dope table, then a block for each list, in the order of the rows and without
 /// gaps. A block is a multiple of 4 bytes long.
 #[derive(Drop)]
 pub struct Heap {
     pool: Vec<u8>,
+    spare: Vec<u8>,
     static_size: u32,
     end: u32,
 }
 
 impl Model for Heap {
-    ghost use Rattle.nxt_heap.specs.Lists.{Lists};
-    ghost use Rattle.nxt_heap.specs.Inside.Pool.{state_of, IsHeap};
+    ghost use Rattle.nxt_heap.specs.Lists.{HeapViews};
+    ghost use Rattle.std.specs.Prelude.{◌≡◌, length};
+    ghost use Rattle.nxt_types.specs.Pool.{pool_size};
+    ghost use Rattle.nxt_heap.specs.Inside.Pool.{views_of, IsHeap};
 
-    ghost Value = { Lists };
+    ghost Value = { HeapViews };
 
-    ghost view = { λ a. state_of a.static_size a.pool.items };
+    ghost view = { λ a. views_of a.static_size a.pool.items };
 
-    ghost invariant = { λ a. IsHeap a.static_size a.end a.pool.items };
+    ghost invariant = { λ a. IsHeap a.static_size a.end a.pool.items × (length a.spare.items ≡ pool_size) };
 }
 
 impl Heap {
@@ -42,12 +47,14 @@ impl Heap {
     pub fn new(alloc: Global, static_size: u32, rows: u16) -> Result<Heap, NoMemory>
         requires rows { 1 ≤ rows }
         requires fits { rounded static_size + rounded (10 * rows) ≤ pool_size }
-        ensures { IfOk result (λ heap. heap ≡ zero_heap static_size rows) }
+        ensures { IfOk result (λ heap. heap.lists ≡ zero_heap static_size rows) }
     {
         let mut pool = vec![in alloc; 0; POOL_BYTES as usize]?;
+        let spare = vec![in alloc; 0; POOL_BYTES as usize]?;
         let end = start(&mut pool, static_size, rows);
         Ok(Heap {
             pool,
+            spare,
             static_size,
             end,
         })
@@ -56,23 +63,23 @@ impl Heap {
     /// Frees every list, makes all static bytes 0, and sets the table to row 0 and free rows.
     pub fn restart(&mut self, rows: u16)
         requires rows { 1 ≤ rows }
-        requires fits { rounded (length self.old.static_bytes) + rounded (10 * rows) ≤ pool_size }
-        ensures { self.new ≡ zero_heap (length self.old.static_bytes) rows }
+        requires fits { rounded (length self.old.lists.static_bytes) + rounded (10 * rows) ≤ pool_size }
+        ensures { self.new.lists ≡ zero_heap (length self.old.lists.static_bytes) rows }
     {
         self.end = start(&mut self.pool, self.static_size, rows);
     }
 
     /// The static bytes.
     pub fn static_bytes(&self) -> &[u8]
-        ensures { result.now ≡ self.now.static_bytes }
+        ensures { result.now ≡ self.now.lists.static_bytes }
     {
         &self.pool[..self.static_size as usize]
     }
 
     /// Stores static bytes from a place on.
     pub fn set_static(&mut self, at: u32, bytes: &[u8])
-        requires { at + length bytes.now ≤ length self.old.static_bytes }
-        ensures { self.new ≡ record self.old { static_bytes = put_at at bytes.now self.old.static_bytes } }
+        requires { at + length bytes.now ≤ length self.old.lists.static_bytes }
+        ensures { self.new.lists ≡ record self.old.lists { static_bytes = put_at at bytes.now self.old.lists.static_bytes } }
     {
         put(&mut self.pool, at as usize, bytes);
     }
@@ -81,14 +88,15 @@ impl Heap {
     /// the row's number.
     pub fn new_array(&mut self, stride: u16) -> Result<u16, PoolPassed>
         requires { 1 ≤ stride }
-        ensures free { IfOk result (λ row. IsFree (with_free self.old.by_row) row) }
-        ensures ok { IfOk result (λ row. self.new ≡ with_list (with_free_row self.old) row (empty_list stride)) }
-        ensures fits { OnOk result (footprint (with_free_row self.old) ≤ pool_size) }
-        ensures passed { IfErr result (λ e. Passes (with_free_row self.old) e.0) }
+        ensures free { IfOk result (λ row. IsFree (with_free self.old.lists.by_row) row) }
+        ensures ok { IfOk result (λ row. self.new.lists ≡ with_list (with_free_row self.old.lists) row (empty_list stride)) }
+        ensures fits { OnOk result (footprint (with_free_row self.old.lists) ≤ pool_size) }
+        ensures passed { IfErr result (λ e. Passes (with_free_row self.old.lists) e.0) }
         ensures err { OnErr result (self.new ≡ self.old) }
     {
         match new_list(
             &mut self.pool,
+            &mut self.spare,
             table_above(self.static_size),
             stride,
             self.end,
@@ -103,40 +111,116 @@ impl Heap {
 
     /// Gives a list another number of bytes, a multiple of its stride. The front of the list stays, and new bytes are 0.
     pub fn resize(&mut self, row: u16, bytes: u32) -> Result<(), PoolPassed>
-        requires alive { IsAlive self.old row }
-        requires whole { bytes % stride_at self.old row ≡ 0 }
-        ensures ok { OnOk result (self.new ≡ with_length self.old row bytes) }
-        ensures fits { OnOk result (footprint (with_length self.old row bytes) ≤ pool_size) }
-        ensures passed { IfErr result (λ e. Passes (with_length self.old row bytes) e.0) }
+        requires alive { IsAlive self.old.lists row }
+        requires whole { bytes % stride_at self.old.lists row ≡ 0 }
+        ensures ok { OnOk result (self.new.lists ≡ with_length self.old.lists row bytes) }
+        ensures fits { OnOk result (footprint (with_length self.old.lists row bytes) ≤ pool_size) }
+        ensures passed { IfErr result (λ e. Passes (with_length self.old.lists row bytes) e.0) }
         ensures err { OnErr result (self.new ≡ self.old) }
     {
         let table = table_above(self.static_size);
-        let had = block_bytes(get(&self.pool, table, row));
+        let found = get(&self.pool, table, row);
+        if byte_count(found) == bytes {
+            return Ok(());
+        }
+        let had = block_bytes(found);
         let footprint = (self.end - had) as u64 + round4(bytes as u64);
         if footprint > POOL_BYTES {
             return Err(PoolPassed(footprint));
         }
-        resize_block(&mut self.pool, table, row, bytes, self.end);
+        resize_block(&mut self.pool, &mut self.spare, table, row, bytes, self.end);
         self.end = footprint as u32;
         Ok(())
     }
 
+    /// Gives a list these bytes, a multiple of its stride, in place of its own.
+    pub fn set_list(&mut self, row: u16, bytes: &[u8]) -> Result<(), PoolPassed>
+        requires alive { IsAlive self.old.lists row }
+        requires whole { length bytes.now % stride_at self.old.lists row ≡ 0 }
+        requires small { length bytes.now < 2 ^ 32 }
+        ensures ok { OnOk result (self.new.lists ≡ with_these self.old.lists row bytes.now) }
+        ensures fits { OnOk result (footprint (with_these self.old.lists row bytes.now) ≤ pool_size) }
+        ensures passed { IfErr result (λ e. Passes (with_these self.old.lists row bytes.now) e.0) }
+        ensures err { OnErr result (self.new ≡ self.old) }
+    {
+        self.resize(row, bytes.len() as u32)?;
+        self.write(row, 0, bytes);
+        Ok(())
+    }
+
+    /// Gives a list of single bytes these bytes and a zero behind them, in place of its own.
+    pub fn set_text(&mut self, row: u16, bytes: &[u8]) -> Result<(), PoolPassed>
+        requires alive { IsAlive self.old.lists row }
+        requires single { stride_at self.old.lists row ≡ 1 }
+        requires small { length bytes.now + 1 < 2 ^ 32 }
+        ensures ok { OnOk result (self.new.lists ≡ with_these self.old.lists row (bytes.now ++ 0 ∷ [])) }
+        ensures fits { OnOk result (footprint (with_these self.old.lists row (bytes.now ++ 0 ∷ [])) ≤ pool_size) }
+        ensures passed { IfErr result (λ e. Passes (with_these self.old.lists row (bytes.now ++ 0 ∷ [])) e.0) }
+        ensures err { OnErr result (self.new ≡ self.old) }
+    {
+        let end = bytes.len() as u32;
+        self.resize(row, end + 1)?;
+        self.write(row, 0, bytes);
+        self.write(row, end, &[0]);
+        Ok(())
+    }
+
+    /// Gives a list the bytes of another one, which keeps them. They are a multiple of its stride.
+    pub fn copy_list(&mut self, to: u16, from: u16) -> Result<(), PoolPassed>
+        requires alive { IsAlive self.old.lists to }
+        requires source { IsAlive self.old.lists from }
+        requires whole { length (bytes_at self.old.lists from) % stride_at self.old.lists to ≡ 0 }
+        ensures ok { OnOk result (self.new.lists ≡ with_these self.old.lists to (bytes_at self.old.lists from)) }
+        ensures fits { OnOk result (footprint (with_these self.old.lists to (bytes_at self.old.lists from)) ≤ pool_size) }
+        ensures passed { IfErr result (λ e. Passes (with_these self.old.lists to (bytes_at self.old.lists from)) e.0) }
+        ensures err { OnErr result (self.new ≡ self.old) }
+    {
+        let bytes = self.size_of(from);
+        self.resize(to, bytes)?;
+        self.copy(to, from);
+        Ok(())
+    }
+
+    // How many bytes a list has.
+    fn size_of(&self, row: u16) -> u32
+        requires { IsAlive self.now.lists row }
+        ensures { result ≡ length (bytes_at self.now.lists row) }
+    {
+        byte_count(get(&self.pool, table_above(self.static_size), row))
+    }
+
+    // Stores the bytes of a list in another one that is as long.
+    fn copy(&mut self, to: u16, from: u16)
+        requires alive { IsAlive self.old.lists to }
+        requires source { IsAlive self.old.lists from }
+        requires long { length (bytes_at self.old.lists from) ≤ length (bytes_at self.old.lists to) }
+        ensures { self.new.lists ≡ with_bytes self.old.lists to 0 (bytes_at self.old.lists from) }
+    {
+        copy_bytes(
+            &mut self.pool,
+            &mut self.spare,
+            table_above(self.static_size),
+            to,
+            from,
+        );
+    }
+
     /// Frees a list and its row.
     pub fn free_array(&mut self, row: u16)
-        requires { IsAlive self.old row }
-        ensures { self.new ≡ with_list self.old row None }
+        requires { IsAlive self.old.lists row }
+        ensures { self.new.lists ≡ with_list self.old.lists row None }
     {
         let table = table_above(self.static_size);
         let had = block_bytes(get(&self.pool, table, row));
-        free_block(&mut self.pool, table, row, self.end);
+        free_block(&mut self.pool, &mut self.spare, table, row, self.end);
         self.end -= had;
     }
 
     /// How many bytes the elements of a row's list are apart; `None` where the row has no list.
     pub fn stride(&self, row: u16) -> Option<u16>
-        ensures alive { IfSome result (λ _. IsAlive self.now row) }
-        ensures stride { IfSome result (λ stride. stride ≡ stride_at self.now row) }
-        ensures none { result ≡ None → list_at self.now row ≡ None }
+        ensures alive { IfSome result (λ _. IsAlive self.now.lists row) }
+        ensures stride { IfSome result (λ stride. stride ≡ stride_at self.now.lists row) }
+        ensures none { result ≡ None → list_at self.now.lists row ≡ None }
     {
         let table = table_above(self.static_size);
         if row == 0 || row >= get(&self.pool, table, 0).count {
@@ -148,17 +232,17 @@ impl Heap {
 
     /// The bytes of a list.
     pub fn bytes_of(&self, row: u16) -> &[u8]
-        requires { IsAlive self.now row }
-        ensures { result.now ≡ bytes_at self.now row }
+        requires { IsAlive self.now.lists row }
+        ensures { result.now ≡ bytes_at self.now.lists row }
     {
         row_bytes(&self.pool, table_above(self.static_size), row)
     }
 
     /// Stores bytes of a list from a place on.
     pub fn write(&mut self, row: u16, at: u32, bytes: &[u8])
-        requires alive { IsAlive self.old row }
-        requires at { at + length bytes.now ≤ length (bytes_at self.old row) }
-        ensures { self.new ≡ with_bytes self.old row at bytes.now }
+        requires alive { IsAlive self.old.lists row }
+        requires at { at + length bytes.now ≤ length (bytes_at self.old.lists row) }
+        ensures { self.new.lists ≡ with_bytes self.old.lists row at bytes.now }
     {
         write_bytes(
             &mut self.pool,
@@ -187,9 +271,10 @@ impl Heap {
 
     /// The pool from its first byte to the end of the last block. Its rows read as the lists.
     pub fn dump(&self, alloc: Global) -> Result<Bytes, NoMemory>
-        ensures shows { IfOk result (λ bytes. Shows bytes (table_of self.now) self.now) }
-        ensures holds { IfOk result (λ bytes. HoldHeap bytes (table_of self.now) self.now) }
-        ensures length { IfOk result (λ bytes. length bytes ≡ footprint self.now) }
+        ensures shows { IfOk result (λ bytes. Shows bytes self.now.pool.table self.now.lists) }
+        ensures holds { IfOk result (λ bytes. HoldHeap bytes self.now.pool.table self.now.lists) }
+        ensures front { IfOk result (λ bytes. bytes ≡ take (length bytes) self.now.pool.bytes) }
+        ensures length { IfOk result (λ bytes. length bytes ≡ footprint self.now.lists) }
     {
         let mut bytes = Bytes::new(alloc);
         bytes.append(&self.pool[..self.end as usize])?;
@@ -198,7 +283,7 @@ impl Heap {
 
     /// How many bytes of the pool are taken, each list's rounded up to a multiple of 4.
     pub fn footprint(&self) -> u32
-        ensures whole { result ≡ footprint self.now }
+        ensures whole { result ≡ footprint self.now.lists }
         ensures fits { result ≤ pool_size }
     {
         self.end
@@ -206,7 +291,7 @@ impl Heap {
 
     /// How many rows the table has.
     pub fn row_count(&self) -> u16
-        ensures rows { result ≡ length self.now.by_row }
+        ensures rows { result ≡ length self.now.lists.by_row }
         ensures some { 1 ≤ result }
     {
         get(&self.pool, table_above(self.static_size), 0).count
@@ -214,14 +299,15 @@ impl Heap {
 
     /// What a heap holds is sound: row 0 is the table's own, and no list. The call does nothing.
     pub fn is_sound(&self)
-        ensures { list_at self.now 0 ≡ None }
+        ensures { list_at self.now.lists 0 ≡ None }
     {
         let _end = self.end;
     }
 
     /// Where the table stands in the pool, in bytes.
     pub fn table_place(&self) -> u32
-        ensures { result ≡ table_of self.now }
+        ensures place { result ≡ self.now.pool.table }
+        ensures above { result ≡ table_of self.now.lists }
     {
         table_above(self.static_size)
     }

@@ -1,8 +1,9 @@
 -- The rows that a file's arrays name.
 use Rattle.std.specs.Prelude.{ℕ, ◌+◌, ◌*◌, Bool, true, false, ◌&&◌, ◌||◌, not, ◌==◌, nat_lt, nat_le, List, [], ◌∷◌, map, filter, flat_map, length, Option, Some, None}
 use Rattle.std.specs.List.{list_all, list_any}
+use Rattle.nxt_types.specs.Bytes.{u16_at}
 use Rattle.nxt_types.specs.Shapes.{Shape, Array}
-use Rattle.nxt_model.specs.Reading.{Memory, DopeRow, dope_row, row_count, leaf_place, u16_in}
+use Rattle.nxt_model.specs.Reading.{Memory, DopeRow, dope_row, row_count, leaf_place}
 use Rattle.nxt_facts.specs.Places.{places_from}
 use Rattle.nxt_table.specs.Leaves.{Leaf, extent}
 
@@ -60,7 +61,7 @@ is_beyond g n = nat_le (row_count g.memory) n
 
 -- the row numbers of entry a in elements that stand at these places
 abbrev pub numbers_at : Ground → ℕ → List ℕ → List ℕ
-numbers_at g a places = map (λ base. u16_in g.memory.bytes (leaf_place g.memory a base)) places
+numbers_at g a places = map (λ base. u16_at g.memory.bytes (leaf_place g.memory a base)) places
 
 -- the rows whose elements, of so many bytes, are read
 abbrev pub read_by : Ground → ℕ → List ℕ → List ℕ

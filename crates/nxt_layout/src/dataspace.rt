@@ -1,7 +1,8 @@
 // A file's dataspace, and the rows of its table in it.
 
 ghost use Rattle.std.specs.Prelude.{◌≡◌, ◌<◌, ◌≤◌, ◌^◌, ◌+◌, ◌*◌, ◌-◌, slice_index};
-ghost use Rattle.nxt_model.specs.Reading.{u16_in, row_count};
+ghost use Rattle.nxt_types.specs.Bytes.{u16_at};
+ghost use Rattle.nxt_model.specs.Reading.{row_count};
 ghost use Rattle.nxt_layout.specs.Rows.{row as dope_row, row_end, has_elements as row_has_elements, is_placed as row_is_placed};
 ghost use Rattle.nxt_layout.specs.Inside.RowPasses.{ground_of, row_bytes as rounded_bytes};
 
@@ -20,7 +21,7 @@ impl Dataspace {
     /// The number of 16 bits at a place, the low byte first. A byte past the end counts as 0.
     pub fn number_at(&self, at: u32) -> u16
         requires { at < 2 ^ 32 - 1 }
-        ensures { result ≡ u16_in self.now.bytes.items at }
+        ensures { result ≡ u16_at self.now.bytes.items at }
     {
         u16::from_le_bytes([self.byte_at(at), self.byte_at(at + 1)])
     }

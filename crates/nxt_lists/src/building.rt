@@ -24,13 +24,13 @@ use std::alloc::Global;
 
 /// Stores the list of its sources, one after another: a value that is an element for it, or else a list's elements.
 pub fn build(alloc: Global, space: &mut Space, dest: u16, sources: &[u16]) -> Result<(), OpFault>
-    requires sound { AreSound space.old }
-    requires dest { IsSome (name_of space.old dest) }
-    requires of_list { is_list (shape_of space.old dest) ≡ true }
+    requires sound { AreSound space.old.vars }
+    requires dest { IsSome (name_of space.old.vars dest) }
+    requires of_list { is_list (shape_of space.old.vars dest) ≡ true }
     requires few { length sources.now < 2 ^ 16 }
-    requires sources { All (λ i. IsSome (name_of space.old i)) sources.now }
-    requires fit { All (λ i. goes_into (shape_of space.old dest) (shape_of space.old i) ≡ true) sources.now }
-    ensures { (d : Devices) → Does Done (values_stored space.old (place_of space.old dest ∷ []) (build_means d (given space.old dest ∷ map (given space.old) sources.now))) space.old result space.new }
+    requires sources { All (λ i. IsSome (name_of space.old.vars i)) sources.now }
+    requires fit { All (λ i. goes_into (shape_of space.old.vars dest) (shape_of space.old.vars i) ≡ true) sources.now }
+    ensures { (d : Devices) → Does Done (values_stored space.old.vars (place_of space.old.vars dest ∷ []) (build_means d (given space.old.vars dest ∷ map (given space.old.vars) sources.now))) space.old result space.new }
 {
     let found = measured(alloc, space, dest, sources)?;
     check_room(space, dest, found.count, found.size)?;
@@ -46,14 +46,14 @@ pub fn initialize(
     value: u16,
     count: u16,
 ) -> Result<(), OpFault>
-    requires sound { AreSound space.old }
-    requires dest { IsSome (name_of space.old dest) }
-    requires value { IsSome (name_of space.old value) }
-    requires count { IsSome (name_of space.old count) }
-    requires of_list { is_list (shape_of space.old dest) ≡ true }
-    requires number { is_number (shape_of space.old count) ≡ true }
-    requires fit { convertible (element_shape (shape_of space.old dest)) (shape_of space.old value) ≡ true }
-    ensures { (d : Devices) → Does Done (values_stored space.old (place_of space.old dest ∷ []) (initialize_means d (given space.old dest) (given space.old value) (given space.old count))) space.old result space.new }
+    requires sound { AreSound space.old.vars }
+    requires dest { IsSome (name_of space.old.vars dest) }
+    requires value { IsSome (name_of space.old.vars value) }
+    requires count { IsSome (name_of space.old.vars count) }
+    requires of_list { is_list (shape_of space.old.vars dest) ≡ true }
+    requires number { is_number (shape_of space.old.vars count) ≡ true }
+    requires fit { convertible (element_shape (shape_of space.old.vars dest)) (shape_of space.old.vars value) ≡ true }
+    ensures { (d : Devices) → Does Done (values_stored space.old.vars (place_of space.old.vars dest ∷ []) (initialize_means d (given space.old.vars dest) (given space.old.vars value) (given space.old.vars count))) space.old result space.new }
 {
     let count = wrap(space.get(count));
     let one = flat_of(alloc, space, value)?;
@@ -72,13 +72,13 @@ struct Found {
 
 // How many elements all sources give for a list, and what they take of the pool there.
 fn measured(alloc: Global, space: &Space, dest: u16, sources: &[u16]) -> Result<Found, NoMemory>
-    requires sound { AreSound space.now }
-    requires dest { IsSome (name_of space.now dest) }
-    requires of_list { is_list (shape_of space.now dest) ≡ true }
+    requires sound { AreSound space.now.vars }
+    requires dest { IsSome (name_of space.now.vars dest) }
+    requires of_list { is_list (shape_of space.now.vars dest) ≡ true }
     requires few { length sources.now < 2 ^ 16 }
-    requires sources { All (λ i. IsSome (name_of space.now i)) sources.now }
-    requires fit { All (λ i. goes_into (shape_of space.now dest) (shape_of space.now i) ≡ true) sources.now }
-    ensures { IfOk result (λ found. let vs = pieces_of space.now dest sources.now in let s = element_shape (shape_of space.now dest) in found ≡ record { count = length vs; size = size_of_each s (map (stored s) vs) }) }
+    requires sources { All (λ i. IsSome (name_of space.now.vars i)) sources.now }
+    requires fit { All (λ i. goes_into (shape_of space.now.vars dest) (shape_of space.now.vars i) ≡ true) sources.now }
+    ensures { IfOk result (λ found. let vs = pieces_of space.now.vars dest sources.now in let s = element_shape (shape_of space.now.vars dest) in found ≡ record { count = length vs; size = size_of_each s (map (stored s) vs) }) }
 {
     let element = element_of(space, dest);
     let mut count = 0;
@@ -94,8 +94,8 @@ fn measured(alloc: Global, space: &Space, dest: u16, sources: &[u16]) -> Result<
 
 // The shape of a list's elements.
 fn element_of(space: &Space, list: u16) -> &Shape
-    requires { is_list (shape_of space.now list) ≡ true }
-    ensures { tree result.now ≡ element_shape (shape_of space.now list) }
+    requires { is_list (shape_of space.now.vars list) ≡ true }
+    ensures { tree result.now ≡ element_shape (shape_of space.now.vars list) }
 {
     match space.shape(list) {
         Some(Shape::List(_, element)) => element,
@@ -126,13 +126,13 @@ fn joined(
     sources: &[u16],
     count: u64,
 ) -> Result<Flat, NoMemory>
-    requires sound { AreSound space.now }
-    requires of_list { is_list (shape_of space.now dest) ≡ true }
+    requires sound { AreSound space.now.vars }
+    requires of_list { is_list (shape_of space.now.vars dest) ≡ true }
     requires few { count < 2 ^ 63 }
-    requires sources { All (λ i. IsSome (name_of space.now i)) sources.now }
-    requires fit { All (λ i. goes_into (shape_of space.now dest) (shape_of space.now i) ≡ true) sources.now }
-    requires count { count ≡ length (pieces_of space.now dest sources.now) }
-    ensures { IfOk result (λ flat. flat ≡ flat_form (list_of (pieces_of space.now dest sources.now))) }
+    requires sources { All (λ i. IsSome (name_of space.now.vars i)) sources.now }
+    requires fit { All (λ i. goes_into (shape_of space.now.vars dest) (shape_of space.now.vars i) ≡ true) sources.now }
+    requires count { count ≡ length (pieces_of space.now.vars dest sources.now) }
+    ensures { IfOk result (λ flat. flat ≡ flat_form (list_of (pieces_of space.now.vars dest sources.now))) }
 {
     let mut flat = Flat::new(alloc);
     flat.push(count as i64)?;

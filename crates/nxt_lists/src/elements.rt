@@ -19,12 +19,12 @@ use std::alloc::Global;
 
 /// Stores the element of a list at an index (0 where it is left out), or past the list's end the zero value.
 pub fn index(alloc: Global, space: &mut Space, dest: u16, list: u16, at: u16) -> Result<(), OpFault>
-    requires sound { AreSound space.old }
-    requires dest { IsSome (name_of space.old dest) }
-    requires list { IsSome (name_of space.old list) }
-    requires of_list { is_list (shape_of space.old list) ≡ true }
-    requires fit { convertible (shape_of space.old dest) (element_of (shape_of space.old list)) ≡ true }
-    ensures { (d : Devices) → Does Done (values_stored space.old (place_of space.old dest ∷ []) (index_means d (given space.old dest) (given space.old list) (given_or_left space.old at))) space.old result space.new }
+    requires sound { AreSound space.old.vars }
+    requires dest { IsSome (name_of space.old.vars dest) }
+    requires list { IsSome (name_of space.old.vars list) }
+    requires of_list { is_list (shape_of space.old.vars list) ≡ true }
+    requires fit { convertible (shape_of space.old.vars dest) (element_of (shape_of space.old.vars list)) ≡ true }
+    ensures { (d : Devices) → Does Done (values_stored space.old.vars (place_of space.old.vars dest ∷ []) (index_means d (given space.old.vars dest) (given space.old.vars list) (given_or_left space.old.vars at))) space.old result space.new }
 {
     let flat = element_or_none(alloc, space, list, word_or(space, at, 0))?;
     store(space, dest, &flat)
@@ -32,10 +32,10 @@ pub fn index(alloc: Global, space: &mut Space, dest: u16, list: u16, at: u16) ->
 
 // The flat form of a list's element, or no numbers past the list's end.
 fn element_or_none(alloc: Global, space: &Space, list: u16, k: u32) -> Result<Flat, NoMemory>
-    requires named { IsSome (name_of space.now list) }
-    requires of_list { is_list (shape_of space.now list) ≡ true }
-    ensures within { k < length (elements (value_of space.now list)) → IfOk result (λ flat. flat ≡ flat_form (slice_index_or (elements (value_of space.now list)) k (Num (pos 0)))) }
-    ensures past { length (elements (value_of space.now list)) ≤ k → IfOk result (λ flat. flat ≡ []) }
+    requires named { IsSome (name_of space.now.vars list) }
+    requires of_list { is_list (shape_of space.now.vars list) ≡ true }
+    ensures within { k < length (elements (value_of space.now.vars list)) → IfOk result (λ flat. flat ≡ flat_form (slice_index_or (elements (value_of space.now.vars list)) k (Num (pos 0)))) }
+    ensures past { length (elements (value_of space.now.vars list)) ≤ k → IfOk result (λ flat. flat ≡ []) }
 {
     let mut flat = Flat::new(alloc);
     if k < length_of(alloc, space, list) {
@@ -53,14 +53,14 @@ pub fn replace(
     at: u16,
     new: u16,
 ) -> Result<(), OpFault>
-    requires sound { AreSound space.old }
-    requires dest { IsSome (name_of space.old dest) }
-    requires list { IsSome (name_of space.old list) }
-    requires new { IsSome (name_of space.old new) }
-    requires of_list { is_list (shape_of space.old list) ≡ true }
-    requires fit { convertible (shape_of space.old dest) (shape_of space.old list) ≡ true }
-    requires goes { goes_into (shape_of space.old list) (shape_of space.old new) ≡ true }
-    ensures { (d : Devices) → Does Done (values_stored space.old (place_of space.old dest ∷ []) (replace_means d (given space.old dest) (given space.old list) (given_or_left space.old at) (given space.old new))) space.old result space.new }
+    requires sound { AreSound space.old.vars }
+    requires dest { IsSome (name_of space.old.vars dest) }
+    requires list { IsSome (name_of space.old.vars list) }
+    requires new { IsSome (name_of space.old.vars new) }
+    requires of_list { is_list (shape_of space.old.vars list) ≡ true }
+    requires fit { convertible (shape_of space.old.vars dest) (shape_of space.old.vars list) ≡ true }
+    requires goes { goes_into (shape_of space.old.vars list) (shape_of space.old.vars new) ≡ true }
+    ensures { (d : Devices) → Does Done (values_stored space.old.vars (place_of space.old.vars dest ∷ []) (replace_means d (given space.old.vars dest) (given space.old.vars list) (given_or_left space.old.vars at) (given space.old.vars new))) space.old result space.new }
 {
     let flat = overwritten(alloc, space, list, word_or(space, at, 0), new)?;
     store(space, dest, &flat)
@@ -68,11 +68,11 @@ pub fn replace(
 
 // The flat form of a list with others in place of its elements from an index on, as many as fit.
 fn overwritten(alloc: Global, space: &Space, list: u16, at: u32, new: u16) -> Result<Flat, NoMemory>
-    requires list { IsSome (name_of space.now list) }
-    requires new { IsSome (name_of space.now new) }
-    requires of_list { is_list (shape_of space.now list) ≡ true }
-    requires goes { goes_into (shape_of space.now list) (shape_of space.now new) ≡ true }
-    ensures { IfOk result (λ flat. flat ≡ flat_form (list_of (overwritten_elements (elements (value_of space.now list)) at (pieces (shape_of space.now list) (given space.now new))))) }
+    requires list { IsSome (name_of space.now.vars list) }
+    requires new { IsSome (name_of space.now.vars new) }
+    requires of_list { is_list (shape_of space.now.vars list) ≡ true }
+    requires goes { goes_into (shape_of space.now.vars list) (shape_of space.now.vars new) ≡ true }
+    ensures { IfOk result (λ flat. flat ≡ flat_form (list_of (overwritten_elements (elements (value_of space.now.vars list)) at (pieces (shape_of space.now.vars list) (given space.now.vars new))))) }
 {
     let length = length_of(alloc, space, list);
     let from = at.min(length);
@@ -86,11 +86,11 @@ fn overwritten(alloc: Global, space: &Space, list: u16, at: u32, new: u16) -> Re
 
 /// Stores the length of a list in a number. It takes no memory.
 pub fn array_size(alloc: Global, space: &mut Space, dest: u16, list: u16)
-    requires sound { AreSound space.old }
-    requires dest { IsSome (name_of space.old dest) }
-    requires list { IsSome (name_of space.old list) }
-    requires number { is_number (shape_of space.old dest) ≡ true }
-    ensures { (d : Devices) → Does Done (values_stored space.old (place_of space.old dest ∷ []) (size_means d (given space.old dest) (given space.old list))) space.old (Ok tt) space.new }
+    requires sound { AreSound space.old.vars }
+    requires dest { IsSome (name_of space.old.vars dest) }
+    requires list { IsSome (name_of space.old.vars list) }
+    requires number { is_number (shape_of space.old.vars dest) ≡ true }
+    ensures { (d : Devices) → Does Done (values_stored space.old.vars (place_of space.old.vars dest ∷ []) (size_means d (given space.old.vars dest) (given space.old.vars list))) space.old (Ok tt) space.new }
 {
     space.set(dest, i64::from(length_of(alloc, space, list)));
 }
@@ -104,12 +104,12 @@ pub fn subset(
     at: u16,
     count: u16,
 ) -> Result<(), OpFault>
-    requires sound { AreSound space.old }
-    requires dest { IsSome (name_of space.old dest) }
-    requires list { IsSome (name_of space.old list) }
-    requires of_list { is_list (shape_of space.old list) ≡ true }
-    requires fit { convertible (shape_of space.old dest) (shape_of space.old list) ≡ true }
-    ensures { (d : Devices) → Does Done (values_stored space.old (place_of space.old dest ∷ []) (subset_means d (given space.old dest) (given space.old list) (given_or_left space.old at) (given_or_left space.old count))) space.old result space.new }
+    requires sound { AreSound space.old.vars }
+    requires dest { IsSome (name_of space.old.vars dest) }
+    requires list { IsSome (name_of space.old.vars list) }
+    requires of_list { is_list (shape_of space.old.vars list) ≡ true }
+    requires fit { convertible (shape_of space.old.vars dest) (shape_of space.old.vars list) ≡ true }
+    ensures { (d : Devices) → Does Done (values_stored space.old.vars (place_of space.old.vars dest ∷ []) (subset_means d (given space.old.vars dest) (given space.old.vars list) (given_or_left space.old.vars at) (given_or_left space.old.vars count))) space.old result space.new }
 {
     let length = length_of(alloc, space, list);
     let from = word_or(space, at, 0).min(length);
@@ -126,11 +126,11 @@ fn list_between(
     from: u32,
     to: u32,
 ) -> Result<Flat, NoMemory>
-    requires named { IsSome (name_of space.now list) }
-    requires of_list { is_list (shape_of space.now list) ≡ true }
+    requires named { IsSome (name_of space.now.vars list) }
+    requires of_list { is_list (shape_of space.now.vars list) ≡ true }
     requires ordered { from ≤ to }
-    requires within { to ≤ length (elements (value_of space.now list)) }
-    ensures { IfOk result (λ flat. flat ≡ flat_form (list_of (slice_range (elements (value_of space.now list)) from to))) }
+    requires within { to ≤ length (elements (value_of space.now.vars list)) }
+    ensures { IfOk result (λ flat. flat ≡ flat_form (list_of (slice_range (elements (value_of space.now.vars list)) from to))) }
 {
     let mut flat = Flat::new(alloc);
     flat.push(i64::from(to - from))?;

@@ -16,16 +16,16 @@ use std::alloc::Global;
 
 /// How many elements a list has.
 pub fn length_of(alloc: Global, space: &Space, list: u16) -> u32
-    requires { IsSome (name_of space.now list) }
-    ensures { result ≡ length (elements (value_of space.now list)) }
+    requires { IsSome (name_of space.now.vars list) }
+    ensures { result ≡ length (elements (value_of space.now.vars list)) }
 {
     space.length(&Path::whole(alloc, list))
 }
 
 /// Adds the flat form of a value.
 pub fn push_value(alloc: Global, space: &Space, i: u16, flat: &mut Flat) -> Result<(), NoMemory>
-    requires { IsSome (name_of space.now i) }
-    ensures { OnOk result (flat.new ≡ flat.old ++ flat_form (value_of space.now i)) }
+    requires { IsSome (name_of space.now.vars i) }
+    ensures { OnOk result (flat.new ≡ flat.old ++ flat_form (value_of space.now.vars i)) }
 {
     space.gather(&Path::whole(alloc, i), flat)
 }
@@ -38,10 +38,10 @@ pub fn push_element(
     k: u32,
     flat: &mut Flat,
 ) -> Result<(), NoMemory>
-    requires named { IsSome (name_of space.now list) }
-    requires of_list { is_list (shape_of space.now list) ≡ true }
-    requires within { k < length (elements (value_of space.now list)) }
-    ensures { OnOk result (flat.new ≡ flat.old ++ flat_form (slice_index_or (elements (value_of space.now list)) k (Num (pos 0)))) }
+    requires named { IsSome (name_of space.now.vars list) }
+    requires of_list { is_list (shape_of space.now.vars list) ≡ true }
+    requires within { k < length (elements (value_of space.now.vars list)) }
+    ensures { OnOk result (flat.new ≡ flat.old ++ flat_form (slice_index_or (elements (value_of space.now.vars list)) k (Num (pos 0)))) }
 {
     let mut steps = Flat::new(alloc);
     steps.push(i64::from(k))?;
@@ -58,11 +58,11 @@ pub fn push_elements(
     to: u32,
     flat: &mut Flat,
 ) -> Result<(), NoMemory>
-    requires named { IsSome (name_of space.now list) }
-    requires of_list { is_list (shape_of space.now list) ≡ true }
+    requires named { IsSome (name_of space.now.vars list) }
+    requires of_list { is_list (shape_of space.now.vars list) ≡ true }
     requires ordered { from ≤ to }
-    requires within { to ≤ length (elements (value_of space.now list)) }
-    ensures { OnOk result (flat.new ≡ flat.old ++ flat_map flat_form (slice_range (elements (value_of space.now list)) from to)) }
+    requires within { to ≤ length (elements (value_of space.now.vars list)) }
+    ensures { OnOk result (flat.new ≡ flat.old ++ flat_map flat_form (slice_range (elements (value_of space.now.vars list)) from to)) }
 {
     for k in from..to {
         push_element(alloc, space, list, k, flat)?;
@@ -72,7 +72,7 @@ pub fn push_elements(
 
 /// Whether a value is an element for a list.
 pub fn is_element(space: &Space, list: u16, value: u16) -> bool
-    ensures { result ≡ convertible_shapes (element_of (shape_of space.now list)) (shape_of space.now value) }
+    ensures { result ≡ convertible_shapes (element_of (shape_of space.now.vars list)) (shape_of space.now.vars value) }
 {
     match (space.shape(list), space.shape(value)) {
         (Some(list), Some(value)) => has_element(list, value),
@@ -100,11 +100,11 @@ pub fn push_pieces(
     most: u32,
     flat: &mut Flat,
 ) -> Result<u32, NoMemory>
-    requires named { IsSome (name_of space.now value) }
-    requires of_list { is_list (shape_of space.now list) ≡ true }
-    requires fit { goes_into (shape_of space.now list) (shape_of space.now value) ≡ true }
-    ensures count { IfOk result (λ n. n ≡ length (take most (pieces (shape_of space.now list) (given space.now value)))) }
-    ensures flat { OnOk result (flat.new ≡ flat.old ++ flat_map flat_form (take most (pieces (shape_of space.now list) (given space.now value)))) }
+    requires named { IsSome (name_of space.now.vars value) }
+    requires of_list { is_list (shape_of space.now.vars list) ≡ true }
+    requires fit { goes_into (shape_of space.now.vars list) (shape_of space.now.vars value) ≡ true }
+    ensures count { IfOk result (λ n. n ≡ length (take most (pieces (shape_of space.now.vars list) (given space.now.vars value)))) }
+    ensures flat { OnOk result (flat.new ≡ flat.old ++ flat_map flat_form (take most (pieces (shape_of space.now.vars list) (given space.now.vars value)))) }
 {
     if !is_element(space, list, value) {
         let count = length_of(alloc, space, value).min(most);

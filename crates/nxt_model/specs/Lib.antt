@@ -14,7 +14,7 @@ pub mod Step
 pub mod LineText
 pub mod LineList
 pub mod Reading
-pub mod Spots
+pub mod Spans
 pub mod Dump
 pub mod Report
 pub mod Nbc

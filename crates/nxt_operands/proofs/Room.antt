@@ -5,7 +5,7 @@ use Rattle.nxt_types.specs.Pool.{round4, pool_size}
 use Rattle.nxt_model.specs.Values.{Value}
 use Rattle.nxt_space.specs.Outcomes.{Does}
 use Rattle.nxt_values.specs.Sizes.{size_in}
-use Rattle.nxt_space.specs.Variables.{Variables, AreSound, name_of, shape_of, with_value, with_values, footprint_of, footprint_with}
+use Rattle.nxt_space.specs.Variables.{Variables, SpaceViews, AreSound, name_of, shape_of, with_value, with_values, footprint_of, footprint_with}
 use Rattle.nxt_space.specs.declared.fault.OpFault.{OpFault}
 use Rattle.nxt_space.specs.declared.fault.OpFault.TheVariants.{PoolPassed}
 use Rattle.nxt_values.specs.declared.sizing.Size.{Size}
@@ -21,17 +21,17 @@ room_told s i v size sound some is =
 pub room_found : (s : Variables) (i : ℕ) (v : Value) (size : Size) → AreSound s → IsSome (name_of s i) → size ≡ size_in (shape_of s i) v → footprint_with s i size.lists size.bytes ≤ pool_size → footprint_of (with_values (with_value s i v) s) ≤ pool_size
 room_found s i v size sound some is h = subst (λ n. n ≤ pool_size) (room_told s i v size sound some is) h
 
-room_refused : (s : Variables) (i : ℕ) (v : Value) (size : Size) (bytes : ℕ) → AreSound s → IsSome (name_of s i) → size ≡ size_in (shape_of s i) v → (pool_size < footprint_with s i size.lists size.bytes) × (bytes ≡ footprint_with s i size.lists size.bytes) → Does {T = Unit {0}} Done (with_value s i v) s (Err (PoolPassed bytes)) s
+room_refused : (s : SpaceViews) (i : ℕ) (v : Value) (size : Size) (bytes : ℕ) → AreSound s.vars → IsSome (name_of s.vars i) → size ≡ size_in (shape_of s.vars i) v → (pool_size < footprint_with s.vars i size.lists size.bytes) × (bytes ≡ footprint_with s.vars i size.lists size.bytes) → Does {T = Unit {0}} Done (with_value s.vars i v) s (Err (PoolPassed bytes)) s
 room_refused s i v size bytes sound some is h =
-    let told = room_told s i v size sound some is in
+    let told = room_told s.vars i v size sound some is in
     (subst (λ n. pool_size < n) told h.0, h.1 ∙ told, refl)
 
 -- and where a call passes that on
-pub room_passed : (s : Variables) (i : ℕ) (v : Value) (size : Size) (bytes : ℕ) (r : Result Unit OpFault) → AreSound s → IsSome (name_of s i) → size ≡ size_in (shape_of s i) v → IsErrAnd r (λ f. f ≡ PoolPassed bytes) → (pool_size < footprint_with s i size.lists size.bytes) × (bytes ≡ footprint_with s i size.lists size.bytes) → IfErr r (λ fault. Does {T = Unit {0}} Done (with_value s i v) s (Err fault) s)
+pub room_passed : (s : SpaceViews) (i : ℕ) (v : Value) (size : Size) (bytes : ℕ) (r : Result Unit OpFault) → AreSound s.vars → IsSome (name_of s.vars i) → size ≡ size_in (shape_of s.vars i) v → IsErrAnd r (λ f. f ≡ PoolPassed bytes) → (pool_size < footprint_with s.vars i size.lists size.bytes) × (bytes ≡ footprint_with s.vars i size.lists size.bytes) → IfErr r (λ fault. Does {T = Unit {0}} Done (with_value s.vars i v) s (Err fault) s)
 room_passed s i v size bytes (Ok x) sound some is e h = absurd e
 room_passed s i v size bytes (Err fault) sound some is e h =
     subst
-    (λ f. Does {T = Unit {0}} Done (with_value s i v) s (Err f) s)
+    (λ f. Does {T = Unit {0}} Done (with_value s.vars i v) s (Err f) s)
     (sym e)
     (room_refused s i v size bytes sound some is h)
 

@@ -14,7 +14,7 @@ use nxt_types::words::LEFT_OUT;
 
 /// The word of the number that begins at an entry, or another one where the operand is left out.
 pub fn word_or(space: &Space, i: u16, other: u32) -> u32
-    ensures { result ≡ word_or_else other (given_or_left space.now i) }
+    ensures { result ≡ word_or_else other (given_or_left space.now.vars i) }
 {
     if i == LEFT_OUT {
         other
@@ -25,7 +25,7 @@ pub fn word_or(space: &Space, i: u16, other: u32) -> u32
 
 /// How many bytes the elements of the list that begins at an entry stand apart.
 pub fn stride_at(space: &Space, i: u16) -> u32
-    ensures { result ≡ stride_of (shape_of space.now i) }
+    ensures { result ≡ stride_of (shape_of space.now.vars i) }
 {
     match space.shape(i) {
         Some(shape) => stride(shape),
@@ -44,14 +44,14 @@ fn stride(shape: &Shape) -> u32
 
 /// Whether a number begins at an entry.
 pub fn is_number(space: &Space, i: u16) -> bool
-    ensures { result ≡ is_number_shape (shape_of space.now i) }
+    ensures { result ≡ is_number_shape (shape_of space.now.vars i) }
 {
     matches!(space.shape(i), Some(Shape::Num(_)))
 }
 
 /// Whether a number of a signed kind begins at an entry.
 pub fn has_sign(space: &Space, i: u16) -> bool
-    ensures { result ≡ signed_kind (shape_of space.now i) }
+    ensures { result ≡ signed_kind (shape_of space.now.vars i) }
 {
     match space.shape(i) {
         Some(shape) => is_of_signed_kind(shape),
@@ -61,7 +61,7 @@ pub fn has_sign(space: &Space, i: u16) -> bool
 
 /// Whether the elements of the list that begins at an entry are numbers of a signed kind.
 pub fn has_signed_elements(space: &Space, i: u16) -> bool
-    ensures { result ≡ signed_kind (element (shape_of space.now i)) }
+    ensures { result ≡ signed_kind (element (shape_of space.now.vars i)) }
 {
     match space.shape(i) {
         Some(shape) => is_of_signed_kind(element_of(shape)),

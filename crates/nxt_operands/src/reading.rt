@@ -11,8 +11,8 @@ use std::alloc::Global;
 
 /// The flat form of the value that begins at an entry.
 pub fn flat_of(alloc: Global, space: &Space, i: u16) -> Result<Flat, NoMemory>
-    requires { IsSome (name_of space.now i) }
-    ensures { IfOk result (λ flat. flat ≡ flat_form (value_of space.now i)) }
+    requires { IsSome (name_of space.now.vars i) }
+    ensures { IfOk result (λ flat. flat ≡ flat_form (value_of space.now.vars i)) }
 {
     let mut flat = Flat::new(alloc);
     space.gather(&Path::whole(alloc, i), &mut flat)?;
@@ -21,9 +21,9 @@ pub fn flat_of(alloc: Global, space: &Space, i: u16) -> Result<Flat, NoMemory>
 
 /// The numbers of a list of numbers.
 pub fn numbers_of(alloc: Global, space: &Space, i: u16) -> Result<Flat, NoMemory>
-    requires named { IsSome (name_of space.now i) }
-    requires list { AreNumbers (value_of space.now i) }
-    ensures { IfOk result (λ zs. zs ≡ numbers_in (value_of space.now i)) }
+    requires named { IsSome (name_of space.now.vars i) }
+    requires list { AreNumbers (value_of space.now.vars i) }
+    ensures { IfOk result (λ zs. zs ≡ numbers_in (value_of space.now.vars i)) }
 {
     let flat = flat_of(alloc, space, i)?;
     let mut numbers = Flat::new(alloc);

@@ -14,11 +14,11 @@ use nxt_space::{Flat, OpFault, Size, Space};
 
 /// Whether the pool has room for a list of so many elements, which take so much of it, in a variable.
 pub fn check_room(space: &Space, dest: u16, count: u64, elements: Size) -> Result<(), OpFault>
-    requires sound { AreSound space.now }
-    requires named { IsSome (name_of space.now dest) }
-    requires countable { IsCountable (with_list (shape_of space.now dest) count elements) }
-    ensures room { (v : Value) → with_list (shape_of space.now dest) count elements ≡ size_in (shape_of space.now dest) v → OnOk result (footprint_of (with_values (with_value space.now dest v) space.now) ≤ pool_size) }
-    ensures refused { (v : Value) → with_list (shape_of space.now dest) count elements ≡ size_in (shape_of space.now dest) v → IfErr result (λ fault. Does Done (with_value space.now dest v) space.now (Err fault) space.now) }
+    requires sound { AreSound space.now.vars }
+    requires named { IsSome (name_of space.now.vars dest) }
+    requires countable { IsCountable (with_list (shape_of space.now.vars dest) count elements) }
+    ensures room { (v : Value) → with_list (shape_of space.now.vars dest) count elements ≡ size_in (shape_of space.now.vars dest) v → OnOk result (footprint_of (with_values (with_value space.now.vars dest v) space.now.vars) ≤ pool_size) }
+    ensures refused { (v : Value) → with_list (shape_of space.now.vars dest) count elements ≡ size_in (shape_of space.now.vars dest) v → IfErr result (λ fault. Does Done (with_value space.now.vars dest v) space.now (Err fault) space.now) }
 {
     let size = elements.in_list(count, stride_at(space, dest));
     space.room(dest, size.bytes, size.lists)?;
@@ -27,9 +27,9 @@ pub fn check_room(space: &Space, dest: u16, count: u64, elements: Size) -> Resul
 
 /// Stores the value that the numbers begin with, each cut to its kind.
 pub fn store(space: &mut Space, dest: u16, flat: &Flat) -> Result<(), OpFault>
-    requires named { IsSome (name_of space.old dest) }
-    requires countable { IsCountable (size_of_filled (shape_of space.old dest) flat.now) }
-    ensures { Does Done (with_value space.old dest (filled (shape_of space.old dest) flat.now).0) space.old result space.new }
+    requires named { IsSome (name_of space.old.vars dest) }
+    requires countable { IsCountable (size_of_filled (shape_of space.old.vars dest) flat.now) }
+    ensures { Does Done (with_value space.old.vars dest (filled (shape_of space.old.vars dest) flat.now).0) space.old result space.new }
 {
     space.store(dest, flat)?;
     Ok(())

@@ -1,7 +1,6 @@
 // Comparisons of whole values.
 
 ghost use Rattle.std.specs.Prelude.{◌≡◌, true, IfOk, IsSome};
-ghost use Rattle.nxt_types.specs.Arithmetic.{compares as compares_of};
 ghost use Rattle.nxt_types.specs.OperandRules.{is_plain, are_alike};
 ghost use Rattle.nxt_model.specs.Means.Numbers.{holds as holds_of};
 ghost use Rattle.nxt_space.specs.Variables.{AreSound, name_of, shape_of};
@@ -13,18 +12,18 @@ use nxt_operands::reading::numbers_of;
 use nxt_space::Space;
 use nxt_types::NoMemory;
 use nxt_types::kind::Cmp;
-use nxt_types::numbers::{compare, taken};
+use nxt_types::numbers::{compare, compares, taken};
 use std::alloc::Global;
 
 /// Whether a comparison of two numbers holds, or of two lists of numbers: the first place where they differ decides, or else
 /// their lengths.
 pub fn holds(alloc: Global, space: &Space, cmp: Cmp, x: u16, y: u16) -> Result<bool, NoMemory>
-    requires sound { AreSound space.now }
-    requires x { IsSome (name_of space.now x) }
-    requires y { IsSome (name_of space.now y) }
-    requires plain { is_plain (shape_of space.now x) ≡ true }
-    requires fit { are_alike (shape_of space.now x) (shape_of space.now y) ≡ true }
-    ensures { IfOk result (λ b. b ≡ holds_of cmp (given space.now x) (given space.now y)) }
+    requires sound { AreSound space.now.vars }
+    requires x { IsSome (name_of space.now.vars x) }
+    requires y { IsSome (name_of space.now.vars y) }
+    requires plain { is_plain (shape_of space.now.vars x) ≡ true }
+    requires fit { are_alike (shape_of space.now.vars x) (shape_of space.now.vars y) ≡ true }
+    ensures { IfOk result (λ b. b ≡ holds_of cmp (given space.now.vars x) (given space.now.vars y)) }
 {
     if is_number(space, x) {
         let signed = has_sign(space, x) || has_sign(space, y);
@@ -51,18 +50,4 @@ fn deciding(signed: bool, xs: &[i64], ys: &[i64]) -> (i64, i64)
         }
     }
     (0, (ys.len() - xs.len()) as i64)
-}
-
-// How two integers compare.
-fn compares(cmp: Cmp, x: i64, y: i64) -> bool
-    ensures { result ≡ compares_of cmp x y }
-{
-    match cmp {
-        Cmp::Lt => x < y,
-        Cmp::Gt => x > y,
-        Cmp::Lteq => x <= y,
-        Cmp::Gteq => x >= y,
-        Cmp::Eq => x == y,
-        Cmp::Neq => x != y,
-    }
 }

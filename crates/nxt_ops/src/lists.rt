@@ -37,13 +37,13 @@ pub fn combine_lists(
     x: u16,
     y: u16,
 ) -> Result<(), OpFault>
-    requires sound { AreSound space.old }
-    requires dest { IsSome (name_of space.old dest) }
-    requires x { IsSome (name_of space.old x) }
-    requires y { IsSome (name_of space.old y) }
-    requires list { is_number_shape (shape_of space.old dest) ≡ false }
-    requires fit { AllTrue (asked_of_two operator (shape_of space.old dest) (shape_of space.old x) (shape_of space.old y)) }
-    ensures { Does Done (with_value space.old dest (stored (shape_of space.old dest) (value_of_two operator (shape_of space.old dest) (given space.old x) (given space.old y)))) space.old result space.new }
+    requires sound { AreSound space.old.vars }
+    requires dest { IsSome (name_of space.old.vars dest) }
+    requires x { IsSome (name_of space.old.vars x) }
+    requires y { IsSome (name_of space.old.vars y) }
+    requires list { is_number_shape (shape_of space.old.vars dest) ≡ false }
+    requires fit { AllTrue (asked_of_two operator (shape_of space.old.vars dest) (shape_of space.old.vars x) (shape_of space.old.vars y)) }
+    ensures { Does Done (with_value space.old.vars dest (stored (shape_of space.old.vars dest) (value_of_two operator (shape_of space.old.vars dest) (given space.old.vars x) (given space.old.vars y)))) space.old result space.new }
 {
     let signed = either_has_signed_elements(space, x, y);
     let flat = words_of(alloc, operator, signed, space, x, y)?;
@@ -58,13 +58,13 @@ pub fn map_list(
     dest: u16,
     x: u16,
 ) -> Result<(), OpFault>
-    requires sound { AreSound space.old }
-    requires dest { IsSome (name_of space.old dest) }
-    requires x { IsSome (name_of space.old x) }
-    requires list { is_number_shape (shape_of space.old dest) ≡ false }
-    requires plain { is_plain (shape_of space.old dest) ≡ true }
-    requires fit { are_alike (shape_of space.old dest) (shape_of space.old x) ≡ true }
-    ensures { Does Done (with_value space.old dest (stored (shape_of space.old dest) (value_of_one operator (shape_of space.old dest) (given space.old x)))) space.old result space.new }
+    requires sound { AreSound space.old.vars }
+    requires dest { IsSome (name_of space.old.vars dest) }
+    requires x { IsSome (name_of space.old.vars x) }
+    requires list { is_number_shape (shape_of space.old.vars dest) ≡ false }
+    requires plain { is_plain (shape_of space.old.vars dest) ≡ true }
+    requires fit { are_alike (shape_of space.old.vars dest) (shape_of space.old.vars x) ≡ true }
+    ensures { Does Done (with_value space.old.vars dest (stored (shape_of space.old.vars dest) (value_of_one operator (shape_of space.old.vars dest) (given space.old.vars x)))) space.old result space.new }
 {
     let signed = has_signed_elements(space, x);
     let flat = mapped(alloc, operator, signed, space, x)?;
@@ -73,7 +73,7 @@ pub fn map_list(
 
 // Whether the elements of one of two values, or it itself, are numbers of a signed kind.
 fn either_has_signed_elements(space: &Space, x: u16, y: u16) -> bool
-    ensures { result ≡ either_signed (element (shape_of space.now x)) (element (shape_of space.now y)) }
+    ensures { result ≡ either_signed (element (shape_of space.now.vars x)) (element (shape_of space.now.vars y)) }
 {
     has_signed_elements(space, x) || has_signed_elements(space, y)
 }
@@ -87,12 +87,12 @@ fn words_of(
     x: u16,
     y: u16,
 ) -> Result<Flat, NoMemory>
-    requires sound { AreSound space.now }
-    requires x { IsSome (name_of space.now x) }
-    requires y { IsSome (name_of space.now y) }
-    requires plain_x { is_plain (shape_of space.now x) ≡ true }
-    requires plain_y { is_plain (shape_of space.now y) ≡ true }
-    ensures { IfOk result (λ flat. flat ≡ words_of_pairs operator signed (pairs_of (numbers_by (shape_of space.now x) (value_of space.now x)) (numbers_by (shape_of space.now y) (value_of space.now y)))) }
+    requires sound { AreSound space.now.vars }
+    requires x { IsSome (name_of space.now.vars x) }
+    requires y { IsSome (name_of space.now.vars y) }
+    requires plain_x { is_plain (shape_of space.now.vars x) ≡ true }
+    requires plain_y { is_plain (shape_of space.now.vars y) ≡ true }
+    ensures { IfOk result (λ flat. flat ≡ words_of_pairs operator signed (pairs_of (numbers_by (shape_of space.now.vars x) (value_of space.now.vars x)) (numbers_by (shape_of space.now.vars y) (value_of space.now.vars y)))) }
 {
     let xs = source_of(alloc, space, x)?;
     let ys = source_of(alloc, space, y)?;
@@ -101,10 +101,10 @@ fn words_of(
 
 // The numbers of a number or of a list of numbers.
 fn source_of(alloc: Global, space: &Space, i: u16) -> Result<Source, NoMemory>
-    requires sound { AreSound space.now }
-    requires named { IsSome (name_of space.now i) }
-    requires plain { is_plain (shape_of space.now i) ≡ true }
-    ensures { IfOk result (λ s. s ≡ numbers_by (shape_of space.now i) (value_of space.now i)) }
+    requires sound { AreSound space.now.vars }
+    requires named { IsSome (name_of space.now.vars i) }
+    requires plain { is_plain (shape_of space.now.vars i) ≡ true }
+    ensures { IfOk result (λ s. s ≡ numbers_by (shape_of space.now.vars i) (value_of space.now.vars i)) }
 {
     if is_number(space, i) {
         Ok(Source::All(space.get(i)))
@@ -167,9 +167,9 @@ fn mapped(
     space: &Space,
     x: u16,
 ) -> Result<Flat, NoMemory>
-    requires named { IsSome (name_of space.now x) }
-    requires list { AreNumbers (value_of space.now x) }
-    ensures { IfOk result (λ flat. flat ≡ words_of_each operator signed (numbers_in (value_of space.now x))) }
+    requires named { IsSome (name_of space.now.vars x) }
+    requires list { AreNumbers (value_of space.now.vars x) }
+    ensures { IfOk result (λ flat. flat ≡ words_of_each operator signed (numbers_in (value_of space.now.vars x))) }
 {
     let numbers = numbers_of(alloc, space, x)?;
     let numbers = numbers.as_slice();

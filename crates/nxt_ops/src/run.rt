@@ -60,8 +60,8 @@ pub fn runs(op: Op) -> bool
 /// Runs arithmetic, a comparison, a move or a jump (Executable File Specification, "Math", "Logic", "Comparison", "Data
 /// Manipulation" and "Control Flow"). Where it is refused nothing has changed.
 pub fn run_op(alloc: Global, i: &Instr, toc: &Toc, space: &mut Space) -> Result<Next, OpFault>
-    requires { CanRun i.now toc.now space.old }
-    ensures { (d : Devices) (t : Clock) → Does (λ next. next ≡ next_of i.now (effect_in space.old i.now d t).jumps) (values_after space.old i.now d t) space.old result space.new }
+    requires { CanRun i.now toc.now space.old.vars }
+    ensures { (d : Devices) (t : Clock) → Does (λ next. next ≡ next_of i.now (effect_in space.old.vars i.now d t).jumps) (values_after space.old.vars i.now d t) space.old result space.new }
 {
     match i.op {
         Op::Jmp => Ok(going_on(i, true)),
@@ -89,9 +89,9 @@ fn going_on(i: &Instr, jumps: bool) -> Next
 fn compute(alloc: Global, i: &Instr, space: &mut Space) -> Result<(), OpFault>
     requires runs { does_run i.now.op ≡ true }
     requires stores { stores i.now.op ≡ true }
-    requires sound { AreSound space.old }
-    requires fit { AreFit space.old.shapes (statement_in i.now) }
-    ensures { (d : Devices) (t : Clock) → Does Done (values_after space.old i.now d t) space.old result space.new }
+    requires sound { AreSound space.old.vars }
+    requires fit { AreFit space.old.vars.shapes (statement_in i.now) }
+    ensures { (d : Devices) (t : Clock) → Does Done (values_after space.old.vars i.now d t) space.old result space.new }
 {
     if let Some(operator) = two_of(i.op, i.cmp) {
         return combine(alloc, operator, space, i.a, i.b, i.c);
@@ -145,12 +145,12 @@ fn combine(
     x: u16,
     y: u16,
 ) -> Result<(), OpFault>
-    requires sound { AreSound space.old }
-    requires dest { IsSome (name_of space.old dest) }
-    requires x { IsSome (name_of space.old x) }
-    requires y { IsSome (name_of space.old y) }
-    requires fit { AllTrue (asked_of_two operator (shape_of space.old dest) (shape_of space.old x) (shape_of space.old y)) }
-    ensures { Does Done (with_value space.old dest (stored (shape_of space.old dest) (value_of_two operator (shape_of space.old dest) (given space.old x) (given space.old y)))) space.old result space.new }
+    requires sound { AreSound space.old.vars }
+    requires dest { IsSome (name_of space.old.vars dest) }
+    requires x { IsSome (name_of space.old.vars x) }
+    requires y { IsSome (name_of space.old.vars y) }
+    requires fit { AllTrue (asked_of_two operator (shape_of space.old.vars dest) (shape_of space.old.vars x) (shape_of space.old.vars y)) }
+    ensures { Does Done (with_value space.old.vars dest (stored (shape_of space.old.vars dest) (value_of_two operator (shape_of space.old.vars dest) (given space.old.vars x) (given space.old.vars y)))) space.old result space.new }
 {
     if !is_number(space, dest) {
         return combine_lists(alloc, operator, space, dest, x, y);
@@ -168,12 +168,12 @@ fn combine(
 
 // Stores what an operator gives for one value.
 fn change(alloc: Global, operator: One, space: &mut Space, dest: u16, x: u16) -> Result<(), OpFault>
-    requires sound { AreSound space.old }
-    requires dest { IsSome (name_of space.old dest) }
-    requires x { IsSome (name_of space.old x) }
-    requires plain { is_plain (shape_of space.old dest) ≡ true }
-    requires fit { are_alike (shape_of space.old dest) (shape_of space.old x) ≡ true }
-    ensures { Does Done (with_value space.old dest (stored (shape_of space.old dest) (value_of_one operator (shape_of space.old dest) (given space.old x)))) space.old result space.new }
+    requires sound { AreSound space.old.vars }
+    requires dest { IsSome (name_of space.old.vars dest) }
+    requires x { IsSome (name_of space.old.vars x) }
+    requires plain { is_plain (shape_of space.old.vars dest) ≡ true }
+    requires fit { are_alike (shape_of space.old.vars dest) (shape_of space.old.vars x) ≡ true }
+    ensures { Does Done (with_value space.old.vars dest (stored (shape_of space.old.vars dest) (value_of_one operator (shape_of space.old.vars dest) (given space.old.vars x)))) space.old result space.new }
 {
     if !is_number(space, dest) {
         return map_list(alloc, operator, space, dest, x);
@@ -185,11 +185,11 @@ fn change(alloc: Global, operator: One, space: &mut Space, dest: u16, x: u16) ->
 
 // Stores a value in a variable of its own.
 fn copy(alloc: Global, space: &mut Space, dest: u16, source: u16) -> Result<(), OpFault>
-    requires sound { AreSound space.old }
-    requires dest { IsSome (name_of space.old dest) }
-    requires source { IsSome (name_of space.old source) }
-    requires fit { convertible (shape_of space.old dest) (shape_of space.old source) ≡ true }
-    ensures { Does Done (with_value space.old dest (stored (shape_of space.old dest) (value_of space.old source))) space.old result space.new }
+    requires sound { AreSound space.old.vars }
+    requires dest { IsSome (name_of space.old.vars dest) }
+    requires source { IsSome (name_of space.old.vars source) }
+    requires fit { convertible (shape_of space.old.vars dest) (shape_of space.old.vars source) ≡ true }
+    ensures { Does Done (with_value space.old.vars dest (stored (shape_of space.old.vars dest) (value_of space.old.vars source))) space.old result space.new }
 {
     if is_number(space, dest) {
         space.set(dest, space.get(source));

@@ -1,13 +1,10 @@
 -- The dope table in a pool, and its chain of free rows.
-use Rattle.std.specs.Prelude.{◌≡◌, ◌≢◌, ℕ, zero, suc, ◌+◌, ◌*◌, ◌<◌, ◌≤◌, List, [], ◌∷◌, length, slice_index, All, nat_eq, false}
+use Rattle.std.specs.Prelude.{◌≡◌, ◌≢◌, ℕ, zero, suc, ◌+◌, ◌*◌, ◌<◌, ◌≤◌, List, [], ◌∷◌, length, All, nat_eq, false}
 use Rattle.std.specs.List.{IsDistinct, SameBelow, SameFrom, list_any}
+use Rattle.nxt_types.specs.Bytes.{u16_at}
 use Rattle.nxt_rows.specs.declared.DopeRow.{DopeRow}
 
 -- ---- rows
-
--- the number of 16 bits at this place, the low byte first
-unfoldable pub u16_at : List ℕ → ℕ → ℕ
-u16_at pool at = slice_index pool at + 256 * slice_index pool (at + 1)
 
 -- the row of that number in the table at this place
 unfoldable pub dope_row : List ℕ → ℕ → ℕ → DopeRow

@@ -3,7 +3,8 @@
 
 ghost use Rattle.std.specs.Prelude.{◌≡◌, ◌≢◌, ◌↔◌, ℕ, [], ◌∷◌, ◌+◌, ◌*◌, ◌<◌, ◌≤◌, length, IsNone, IfNone, IfSome};
 ghost use Rattle.std.specs.List.{SameBelow, SameFrom};
-ghost use Rattle.nxt_rows.specs.Rows.{u16_at, dope_row, row_count, IsTable, KeepsOutside, free_rows, IsFreeChain, IsAlive, KeepsOthers, empty_row_of, free_row_of};
+ghost use Rattle.nxt_types.specs.Bytes.{u16_at};
+ghost use Rattle.nxt_rows.specs.Rows.{dope_row, row_count, IsTable, KeepsOutside, free_rows, IsFreeChain, IsAlive, KeepsOthers, empty_row_of, free_row_of};
 
 use byteorder::{ByteOrder, LittleEndian};
 use nxt_types::pool::ROW_BYTES;
@@ -50,7 +51,6 @@ impl DopeRow {
 /// The place of a row whose list is empty.
 pub const NO_PLACE: u16 = 0xFFFF;
 
-#[tactic(auto, unfolding(crate::specs::Rows::u16_at))]
 fn read_u16(pool: &[u8], at: usize) -> u16
     requires { at + 2 ≤ length pool.now }
     ensures { result ≡ u16_at pool.now at }
@@ -58,7 +58,6 @@ fn read_u16(pool: &[u8], at: usize) -> u16
     LittleEndian::read_u16(&pool[at..at + 2])
 }
 
-#[tactic(auto, unfolding(crate::specs::Rows::u16_at))]
 fn write_u16(pool: &mut [u8], at: usize, n: u16)
     requires { at + 2 ≤ length pool.old }
     ensures written { u16_at pool.new at ≡ n }

@@ -4,6 +4,7 @@ use Rattle.std.proofs.lemmas.Bool.{cases_lt, and_parts, false_from_ne_true}
 use Rattle.std.proofs.lemmas.List.Elements.{All-from_recursion}
 use Rattle.std.specs.List.{AllByRecursion}
 use Rattle.std.specs.Prelude.{flat_map, nat_lt, not, ◌&&◌, ◌==◌, slice_index, slice_index_or, slice_range}
+use Rattle.nxt_types.specs.Bytes.{u16_at}
 use Rattle.nxt_types.specs.declared.shape.TocEntry.{TocEntry}
 use Rattle.nxt_types.specs.declared.lists.ClumpRec.{ClumpRec}
 use Rattle.nxt_types.specs.Refusals.{IsRefusal}
@@ -12,7 +13,7 @@ use Rattle.nxt_rxe.specs.declared.fault.RxeFault.TheVariants.{Short, Format, Ver
 use Rattle.nxt_rxe.specs.declared.parts.Header.{Header}
 use Rattle.nxt_rxe.specs.declared.parts.Parts.{Parts}
 use Rattle.nxt_rxe.specs.Files.{format, two_bytes, entry_bytes, clump_bytes, EntryFits, ClumpFits, IsFile}
-use Rattle.nxt_rxe.specs.FileRules.{number_at, table_end, defaults_end, clumps_start, clumps_end, dependents_end, next_even, code_end, passing, Broken, rank}
+use Rattle.nxt_rxe.specs.FileRules.{table_end, defaults_end, clumps_start, clumps_end, dependents_end, next_even, code_end, passing, Broken, rank}
 use Rattle.nxt_rxe.specs.Inside.Reading.{HasHead, IsHeader, SectionBytes, AreSections, ArePartsOf}
 use Rattle.nxt_facts.proofs.Tests.{not_true}
 use Rattle.nxt_rxe.proofs.Rules.FirstBroken.{short_is_first, format_is_first, version_in, version_is_first, section_is_first}
@@ -25,17 +26,17 @@ use Rattle.nxt_rxe.proofs.Files.Items.{Bytes, bytes_from, bytes_between, items, 
 abbrev header_of : List ℕ → Header
 header_of bytes =
     record {
-      toc_count = number_at bytes 16;
-      initial = number_at bytes 18;
-      static_size = number_at bytes 20;
-      default_size = number_at bytes 22;
-      dyn_at = number_at bytes 24;
-      dyn_size = number_at bytes 26;
-      head = number_at bytes 28;
-      tail = number_at bytes 30;
-      dope_at = number_at bytes 32;
-      clump_count = number_at bytes 34;
-      word_count = number_at bytes 36;
+      toc_count = u16_at bytes 16;
+      initial = u16_at bytes 18;
+      static_size = u16_at bytes 20;
+      default_size = u16_at bytes 22;
+      dyn_at = u16_at bytes 24;
+      dyn_size = u16_at bytes 26;
+      head = u16_at bytes 28;
+      tail = u16_at bytes 30;
+      dope_at = u16_at bytes 32;
+      clump_count = u16_at bytes 34;
+      word_count = u16_at bytes 36;
     }
 
 shows_header : (bytes : List ℕ) → IsHeader bytes (header_of bytes)
@@ -81,22 +82,22 @@ module _ (bytes : List ℕ) (b : IsBytes bytes) (head : HasHead bytes) (none : N
   toc =
       let end = within in
       let size = part_len bytes (slice_range bytes 38 (table_end bytes)) 38 (table_end bytes) (omega arith) (omega (arith, end)) refl in
-      items entry_bytes EntryFits 4 entry_front (number_at bytes 16) (slice_range bytes 38 (table_end bytes)) (bytes_between bytes 38 (table_end bytes) all)
-      (omega (arith, size, times_four (number_at bytes 16)))
+      items entry_bytes EntryFits 4 entry_front (u16_at bytes 16) (slice_range bytes 38 (table_end bytes)) (bytes_between bytes 38 (table_end bytes) all)
+      (omega (arith, size, times_four (u16_at bytes 16)))
 
   clumps : (cs : List ClumpRec) × (flat_map clump_bytes cs ≡ slice_range bytes (clumps_start bytes) (clumps_end bytes)) × AllByRecursion ClumpFits cs
   clumps =
       let end = within in
       let size = part_len bytes (slice_range bytes (clumps_start bytes) (clumps_end bytes)) (clumps_start bytes) (clumps_end bytes) (omega arith) (omega (arith, end)) refl in
-      items clump_bytes ClumpFits 4 clump_front (number_at bytes 34) (slice_range bytes (clumps_start bytes) (clumps_end bytes)) (bytes_between bytes (clumps_start bytes) (clumps_end bytes) all)
-      (omega (arith, size, times_four (number_at bytes 34)))
+      items clump_bytes ClumpFits 4 clump_front (u16_at bytes 34) (slice_range bytes (clumps_start bytes) (clumps_end bytes)) (bytes_between bytes (clumps_start bytes) (clumps_end bytes) all)
+      (omega (arith, size, times_four (u16_at bytes 34)))
 
   code : (ws : List ℕ) × (flat_map two_bytes ws ≡ slice_range bytes (next_even (dependents_end bytes)) (code_end bytes)) × AllByRecursion (λ w. w < 2 ^ 16) ws
   code =
       let end = within in
       let size = part_len bytes (slice_range bytes (next_even (dependents_end bytes)) (code_end bytes)) (next_even (dependents_end bytes)) (code_end bytes) (omega arith) (omega (arith, end)) refl in
-      items two_bytes (λ w. w < 2 ^ 16) 2 word_front (number_at bytes 36) (slice_range bytes (next_even (dependents_end bytes)) (code_end bytes)) (bytes_between bytes (next_even (dependents_end bytes)) (code_end bytes) all)
-      (omega (arith, size, times_two (number_at bytes 36)))
+      items two_bytes (λ w. w < 2 ^ 16) 2 word_front (u16_at bytes 36) (slice_range bytes (next_even (dependents_end bytes)) (code_end bytes)) (bytes_between bytes (next_even (dependents_end bytes)) (code_end bytes) all)
+      (omega (arith, size, times_two (u16_at bytes 36)))
 
   parts : Parts
   parts =

@@ -1,29 +1,26 @@
 -- When a file is refused for its sections.
 use Rattle.std.specs.Prelude.{ℕ, ◌+◌, ◌*◌, ◌%◌, Bool, false, ◌&&◌, ◌||◌, not, ◌==◌, nat_lt, List, [], ◌∷◌, length, slice_index, slice_index_or, slice_range, IsTrue}
+use Rattle.nxt_types.specs.Bytes.{u16_at}
 use Rattle.nxt_rxe.specs.declared.fault.RxeFault.{RxeFault}
 use Rattle.nxt_rxe.specs.declared.fault.RxeFault.TheVariants.{Short, Format, Version, Section, NoMemory}
 use Rattle.nxt_rxe.specs.Files.{format}
 
 -- ---- where the sections end
 
--- the number of 16 bits at a place
-abbrev pub number_at : List ℕ → ℕ → ℕ
-number_at bytes at = slice_index bytes at + 256 * slice_index bytes (at + 1)
-
 abbrev pub next_even : ℕ → ℕ
 next_even n = n + n % 2
 
 abbrev pub table_end : List ℕ → ℕ
-table_end bytes = 38 + 4 * number_at bytes 16
+table_end bytes = 38 + 4 * u16_at bytes 16
 
 abbrev pub defaults_end : List ℕ → ℕ
-defaults_end bytes = table_end bytes + number_at bytes 22
+defaults_end bytes = table_end bytes + u16_at bytes 22
 
 abbrev pub clumps_start : List ℕ → ℕ
 clumps_start bytes = next_even (defaults_end bytes)
 
 abbrev pub clumps_end : List ℕ → ℕ
-clumps_end bytes = clumps_start bytes + 4 * number_at bytes 34
+clumps_end bytes = clumps_start bytes + 4 * u16_at bytes 34
 
 -- how many dependents clump records tell, by their bytes
 abbrev pub dependents_told : List ℕ → ℕ
@@ -34,13 +31,13 @@ abbrev pub dependents_end : List ℕ → ℕ
 dependents_end bytes = clumps_end bytes + dependents_told (slice_range bytes (clumps_start bytes) (clumps_end bytes))
 
 abbrev pub code_end : List ℕ → ℕ
-code_end bytes = next_even (dependents_end bytes) + 2 * number_at bytes 36
+code_end bytes = next_even (dependents_end bytes) + 2 * u16_at bytes 36
 
 -- the dynamic defaults pass the defaults, or the dataspace
 abbrev pub dynamic_passes : List ℕ → Bool
 dynamic_passes bytes =
-    (nat_lt 0 (number_at bytes 26) && nat_lt (number_at bytes 22) (number_at bytes 24 + number_at bytes 26))
-    || nat_lt (number_at bytes 18) (number_at bytes 20 + number_at bytes 26)
+    (nat_lt 0 (u16_at bytes 26) && nat_lt (u16_at bytes 22) (u16_at bytes 24 + u16_at bytes 26))
+    || nat_lt (u16_at bytes 18) (u16_at bytes 20 + u16_at bytes 26)
 
 -- whether the sections pass the end: the table, the defaults, the dynamic defaults, the clumps, the dependents, the code
 abbrev pub passing : List ℕ → List Bool

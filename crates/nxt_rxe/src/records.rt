@@ -1,8 +1,8 @@
 // The records of the sections: table entries, clump records and words, read and written.
 
 ghost use Rattle.std.specs.Prelude.{◌≡◌, ◌+◌, ◌%◌, ◌^◌, ◌<◌, ◌≤◌, ◌++◌, length, flat_map, All, IfOk, OnOk};
+ghost use Rattle.nxt_types.specs.Bytes.{u16_at};
 ghost use Rattle.nxt_rxe.specs.Files.{two_bytes, entry_bytes, clump_bytes, EntryFits, ClumpFits, pad_of};
-ghost use Rattle.nxt_rxe.specs.FileRules.{number_at};
 
 use byteorder::{ByteOrder, LittleEndian};
 use nxt_types::lists::{Bytes, ClumpRec, ClumpRecs, Entries, Words};
@@ -24,7 +24,7 @@ pub const CLUMP_BYTES: usize = 4;
 /// The number at a place, low byte first.
 pub fn u16_at(bytes: &[u8], at: usize) -> u16
     requires { at + 2 ≤ length bytes.now }
-    ensures { result ≡ number_at bytes.now at }
+    ensures { result ≡ u16_at bytes.now at }
 {
     LittleEndian::read_u16(&bytes[at..])
 }

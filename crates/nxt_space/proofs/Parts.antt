@@ -12,3 +12,9 @@ pub mod Kept
 pub mod Replaced
 -- Lists of bytes.
 pub mod ByteLists
+-- Numbers that are read and stored where they stand.
+pub mod Spots
+-- Numbers that stand in bytes one behind another.
+pub mod NumberLists
+-- Lists of numbers that are read and stored where they stand.
+pub mod ListSpots

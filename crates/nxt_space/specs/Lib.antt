@@ -1,3 +1,4 @@
 pub mod Outcomes
 pub mod Variables
 pub mod Inside
+pub mod Spots

@@ -10,6 +10,7 @@ use Rattle.nxt_model.specs.Values.{Value, Num, list_of, part, with_part, is_of, 
 use Rattle.nxt_model.specs.Reading.{HeldList, ReadsAs}
 use Rattle.nxt_model.specs.Footprint.{footprint, rows_for, list_bytes}
 use Rattle.nxt_types.specs.Pool.{round4, pool_size}
+use Rattle.nxt_heap.specs.Lists.{Pool}
 use Rattle.nxt_heap.specs.declared.passed.PoolPassed.{PoolPassed}
 use Rattle.nxt_layout.specs.Layouts.{FileLayout}
 use Rattle.nxt_values.specs.Parts.{positions, AreWithin}
@@ -25,6 +26,11 @@ pub record Variables : Type 0 where
   pub start_rows : ℕ
   pub values : Value
   pub rows : ℕ
+
+-- a space is seen as its variables, and as the pool that holds them
+pub record SpaceViews : Type 0 where
+  pub vars : Variables
+  pub pool : Pool
 
 -- ---- what an entry names
 
@@ -92,15 +98,14 @@ FitsPool bytes (Err e) = (pool_size < bytes) × (e.0 ≡ bytes)
 
 -- these are the variables from now on, where the pool holds them; or else the answer tells their bytes, and nothing has
 -- changed
-abbrev pub Becomes : Variables → Variables → Result Unit PoolPassed → Variables → Type 0
-Becomes old next (Ok x) new = (footprint_of next ≤ pool_size) × (new ≡ next)
+abbrev pub Becomes : SpaceViews → Variables → Result Unit PoolPassed → SpaceViews → Type 0
+Becomes old next (Ok x) new = (footprint_of next ≤ pool_size) × (new.vars ≡ next)
 Becomes old next (Err e) new = (pool_size < footprint_of next) × (e.0 ≡ footprint_of next) × (new ≡ old)
 
--- the bytes of a pool read as the variables, in which these lists stand
-abbrev pub ReadsAsPool : Variables → List ℕ → Type 0
-ReadsAsPool s bytes =
-    (lists : List HeldList)
-    × ReadsAs (record { entries = s.entries; bytes = bytes; table = round4 s.static_size }) s.shapes s.values lists
+-- the bytes of a pool with its table at this place read as the variables, in which these lists stand
+abbrev pub ReadsAsPool : Variables → ℕ → List ℕ → Type 0
+ReadsAsPool s table bytes =
+    (lists : List HeldList) × ReadsAs (record { entries = s.entries; bytes = bytes; table = table }) s.shapes s.values lists
 
 -- the elements of each list are at least 1 and fewer than 2^16 bytes apart
 abbrev mutual

@@ -4,6 +4,7 @@
 pub mod fault;
 pub mod path;
 pub mod space;
+pub mod spots;
 mod starting;
 mod variables;
 
@@ -12,4 +13,5 @@ pub use nxt_heap::PoolPassed;
 pub use nxt_values::sizing::{Size, spelled_size};
 pub use path::Path;
 pub use space::Space;
+pub use spots::{ListSpot, Spot};
 pub use variables::Flat;

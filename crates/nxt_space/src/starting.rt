@@ -3,11 +3,12 @@
 ghost use Rattle.std.specs.Prelude.{◌≡◌, ◌<◌, ◌≤◌, ◌+◌, ◌*◌, ◌-◌, ◌^◌, ◌++◌, List, OnOk, IfOk, length, drop, take, slice_index, map};
 ghost use Rattle.std.specs.Int.{from_le_bytes};
 ghost use Rattle.nxt_types.specs.Arithmetic.{leaf_size as size_of_leaf, width_of};
+ghost use Rattle.nxt_types.specs.Bytes.{u16_at};
 ghost use Rattle.nxt_types.specs.Shapes.{tree, members};
 ghost use Rattle.nxt_types.specs.Names.{size, sizes};
 ghost use Rattle.nxt_model.specs.Values.{Value, elements, values, flat, flats};
 ghost use Rattle.nxt_model.specs.Means.Text.{number_in};
-ghost use Rattle.nxt_model.specs.Reading.{HeldList, Reads, MembersRead, ReadsAs, leaf_place, dope_row, u16_in};
+ghost use Rattle.nxt_model.specs.Reading.{HeldList, Reads, MembersRead, ReadsAs, leaf_place, dope_row};
 ghost use Rattle.nxt_space.specs.Inside.Starts.{memory_of};
 
 use nxt_layout::Layout;
@@ -33,7 +34,7 @@ fn byte_at(layout: &Layout, at: u32) -> u8
 // The number of 16 bits at a place, the low byte first.
 fn word_at(layout: &Layout, at: u32) -> u16
     requires { at < 2 ^ 32 - 1 }
-    ensures { result ≡ u16_in layout.now.dataspace at }
+    ensures { result ≡ u16_at layout.now.dataspace at }
 {
     u16::from_le_bytes([byte_at(layout, at), byte_at(layout, at + 1)])
 }

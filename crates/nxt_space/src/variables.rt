@@ -5,9 +5,10 @@ ghost use Rattle.nxt_types.specs.Shapes.{Array, Number, tree, members};
 ghost use Rattle.nxt_types.specs.Names.{size, sizes, name_among};
 ghost use Rattle.nxt_types.specs.declared.kind.Kind.TheVariants.{Ubyte};
 ghost use Rattle.nxt_model.specs.Values.{lists_in, part as parts_value, number, elements};
+ghost use Rattle.nxt_model.specs.Footprint.{rows_for as rows_at_start};
 ghost use Rattle.nxt_types.specs.Pool.{pool_size};
 ghost use Rattle.nxt_heap.specs.Lists.{footprint, block_of};
-ghost use Rattle.nxt_values.specs.Homes.{IsHome, HoldsThere, value_there};
+ghost use Rattle.nxt_values.specs.Regions.{IsRegion, HoldsThere, value_there};
 ghost use Rattle.nxt_values.specs.Writes.{emptied, rows_there, AreOwn};
 ghost use Rattle.nxt_values.specs.Fills.{needs_for, FillsThere, RoomThere};
 ghost use Rattle.nxt_values.specs.Sizes.{IsCountable, size_in, size_of_filled};
@@ -24,7 +25,7 @@ use nxt_types::shape::{Shape, TocEntry};
 use nxt_types::toc::{Toc, copy_of};
 use nxt_values::elements::{elements_at, list_row};
 use nxt_values::parts::part_at;
-use nxt_values::reading::{Home, Place, leaf_place, number_at, size_of};
+use nxt_values::reading::{Place, Region, leaf_place, number_at, size_of};
 use nxt_values::sizing::{NONE, Size, held_size, spelled_size};
 use nxt_values::writing::{fill_members, store};
 use std::alloc::Global;
@@ -48,13 +49,13 @@ pub fn variables_of(alloc: Global, toc: &Toc) -> Result<Vec<Shape>, NoMemory>
 
 // The shape that begins at an entry, and where its value stands.
 fn variable<'t>(heap: &Heap, toc: &'t Toc, i: u16) -> Option<(&'t Shape, Place)>
-    requires stand { Stand toc.now heap.now }
+    requires stand { Stand toc.now heap.now.lists }
     ensures none { result ≡ None → name_among toc.now.shapes 0 i ≡ None }
-    ensures found { IfSome result (λ x. IsVariable toc.now heap.now i (tree x.0.now) x.1) }
+    ensures found { IfSome result (λ x. IsVariable toc.now heap.now.lists i (tree x.0.now) x.1) }
 {
     let shape = toc.shape(i)?;
     let at = Place {
-        home: Home::Static,
+        region: Region::Static,
         entry: i,
         base: 0,
     };
@@ -63,8 +64,8 @@ fn variable<'t>(heap: &Heap, toc: &'t Toc, i: u16) -> Option<(&'t Shape, Place)>
 
 /// The number that begins at an entry, or 0.
 pub fn number_of(heap: &Heap, toc: &Toc, i: u16) -> i64
-    requires { Stand toc.now heap.now }
-    ensures { result ≡ number (value_in toc.now heap.now i) }
+    requires { Stand toc.now heap.now.lists }
+    ensures { result ≡ number (value_in toc.now heap.now.lists i) }
 {
     match variable(heap, toc, i) {
         Some((shape, at)) => number_there(heap, toc.entries(), shape, at),
@@ -74,9 +75,9 @@ pub fn number_of(heap: &Heap, toc: &Toc, i: u16) -> i64
 
 /// The bytes of a list of bytes.
 pub fn bytes_in_list<'h>(heap: &'h Heap, toc: &Toc, i: u16) -> &'h [u8]
-    requires stand { Stand toc.now heap.now }
+    requires stand { Stand toc.now heap.now.lists }
     requires bytes { shape_in toc.now i ≡ Array 1 (Number Ubyte) }
-    ensures { value_in toc.now heap.now i ≡ list_of_bytes result.now }
+    ensures { value_in toc.now heap.now.lists i ≡ list_of_bytes result.now }
 {
     match variable(heap, toc, i) {
         Some((shape, at)) => bytes_there(heap, toc.entries(), shape, at),
@@ -86,12 +87,12 @@ pub fn bytes_in_list<'h>(heap: &'h Heap, toc: &Toc, i: u16) -> &'h [u8]
 
 // The bytes of the list of bytes that stands there.
 fn bytes_there<'h>(heap: &'h Heap, entries: &[TocEntry], shape: &Shape, at: Place) -> &'h [u8]
-    requires pool { footprint heap.now ≤ pool_size }
-    requires home { IsHome heap.now at.home }
-    requires holds { HoldsThere entries.now heap.now (tree shape.now) at }
-    requires room { RoomThere entries.now heap.now (tree shape.now) at }
+    requires pool { footprint heap.now.lists ≤ pool_size }
+    requires region { IsRegion heap.now.lists at.region }
+    requires holds { HoldsThere entries.now heap.now.lists (tree shape.now) at }
+    requires room { RoomThere entries.now heap.now.lists (tree shape.now) at }
     requires bytes { tree shape.now ≡ Array 1 (Number Ubyte) }
-    ensures { value_there entries.now heap.now (tree shape.now) at ≡ list_of_bytes result.now }
+    ensures { value_there entries.now heap.now.lists (tree shape.now) at ≡ list_of_bytes result.now }
 {
     match shape {
         Shape::List(..) => heap.bytes_of(list_row(heap, entries, at)),
@@ -101,11 +102,11 @@ fn bytes_there<'h>(heap: &'h Heap, entries: &[TocEntry], shape: &Shape, at: Plac
 
 /// Where the part stands that a path leads to, and its shape.
 pub fn part<'s>(heap: &Heap, toc: &'s Toc, path: &Path) -> Option<(&'s Shape, Place)>
-    requires stand { Stand toc.now heap.now }
-    requires within { AreWithin (shape_in toc.now path.now.var) (value_in toc.now heap.now path.now.var) (positions path.now.steps) }
+    requires stand { Stand toc.now heap.now.lists }
+    requires within { AreWithin (shape_in toc.now path.now.var) (value_in toc.now heap.now.lists path.now.var) (positions path.now.steps) }
     ensures none { result ≡ None → name_among toc.now.shapes 0 path.now.var ≡ None }
-    ensures there { IfSome result (λ x. IsThere toc.now heap.now (tree x.0.now) x.1) }
-    ensures value { IfSome result (λ x. value_there toc.now.entries heap.now (tree x.0.now) x.1 ≡ parts_value (positions path.now.steps) (value_in toc.now heap.now path.now.var)) }
+    ensures there { IfSome result (λ x. IsThere toc.now heap.now.lists (tree x.0.now) x.1) }
+    ensures value { IfSome result (λ x. value_there toc.now.entries heap.now.lists (tree x.0.now) x.1 ≡ parts_value (positions path.now.steps) (value_in toc.now heap.now.lists path.now.var)) }
 {
     let (shape, at) = variable(heap, toc, path.var)?;
     Some(part_at(heap, toc.entries(), shape, at, path.steps.as_slice()))
@@ -113,15 +114,15 @@ pub fn part<'s>(heap: &Heap, toc: &'s Toc, path: &Path) -> Option<(&'s Shape, Pl
 
 // The number that stands there, or 0.
 fn number_there(heap: &Heap, entries: &[TocEntry], shape: &Shape, at: Place) -> i64
-    requires pool { footprint heap.now ≤ pool_size }
-    requires home { IsHome heap.now at.home }
-    requires holds { HoldsThere entries.now heap.now (tree shape.now) at }
-    ensures { result ≡ number (value_there entries.now heap.now (tree shape.now) at) }
+    requires pool { footprint heap.now.lists ≤ pool_size }
+    requires region { IsRegion heap.now.lists at.region }
+    requires holds { HoldsThere entries.now heap.now.lists (tree shape.now) at }
+    ensures { result ≡ number (value_there entries.now heap.now.lists (tree shape.now) at) }
 {
     match shape {
         Shape::Num(kind) => {
             let place = leaf_place(entries, at.entry, at.base);
-            number_at(heap, at.home, place, *kind)
+            number_at(heap, at.region, place, *kind)
         }
         _ => 0,
     }
@@ -129,11 +130,11 @@ fn number_there(heap: &Heap, entries: &[TocEntry], shape: &Shape, at: Place) -> 
 
 /// How many elements or members the value there has.
 pub fn length_at(heap: &Heap, entries: &[TocEntry], shape: &Shape, at: Place) -> u32
-    requires pool { footprint heap.now ≤ pool_size }
-    requires home { IsHome heap.now at.home }
+    requires pool { footprint heap.now.lists ≤ pool_size }
+    requires region { IsRegion heap.now.lists at.region }
     requires entries { at.entry + size (tree shape.now) < 2 ^ 16 }
-    requires holds { HoldsThere entries.now heap.now (tree shape.now) at }
-    ensures { result ≡ length (elements (value_there entries.now heap.now (tree shape.now) at)) }
+    requires holds { HoldsThere entries.now heap.now.lists (tree shape.now) at }
+    ensures { result ≡ length (elements (value_there entries.now heap.now.lists (tree shape.now) at)) }
 {
     match shape {
         Shape::List(stride, _) => elements_at(heap, entries, *stride, at).count,
@@ -144,11 +145,11 @@ pub fn length_at(heap: &Heap, entries: &[TocEntry], shape: &Shape, at: Place) ->
 
 /// The size of the value that begins at an entry.
 pub fn size_at(heap: &Heap, toc: &Toc, i: u16) -> Size
-    requires stand { Stand toc.now heap.now }
-    requires few { lists_in (values_of toc.now heap.now) < 2 ^ 16 }
-    ensures size { result ≡ size_in (shape_in toc.now i) (value_in toc.now heap.now i) }
-    ensures lists { result.lists ≤ lists_in (values_of toc.now heap.now) }
-    ensures bytes { result.bytes ≤ sum_by block_of heap.now.by_row }
+    requires stand { Stand toc.now heap.now.lists }
+    requires few { lists_in (values_of toc.now heap.now.lists) < 2 ^ 16 }
+    ensures size { result ≡ size_in (shape_in toc.now i) (value_in toc.now heap.now.lists i) }
+    ensures lists { result.lists ≤ lists_in (values_of toc.now heap.now.lists) }
+    ensures bytes { result.bytes ≤ sum_by block_of heap.now.lists.by_row }
 {
     match variable(heap, toc, i) {
         None => NONE,
@@ -172,9 +173,9 @@ pub fn size_of_flat(toc: &Toc, i: u16, flat: &Flat) -> Size
 pub fn fits(heap: &Heap, lists: u64, old: Size, new: Size) -> Result<(), PoolPassed>
     requires lists { old.lists ≤ lists }
     requires few { lists < 2 ^ 16 }
-    requires bytes { old.bytes ≤ sum_by block_of heap.now.by_row }
+    requires bytes { old.bytes ≤ sum_by block_of heap.now.lists.by_row }
     requires countable { IsCountable new }
-    ensures { FitsPool (bytes_after heap.now lists old new) result }
+    ensures { FitsPool (bytes_after heap.now.lists lists old new) result }
 {
     let rows = u64::from(heap.row_count());
     let next_rows = rows.max(lists - old.lists + new.lists + 1);
@@ -189,14 +190,14 @@ pub fn fits(heap: &Heap, lists: u64, old: Size, new: Size) -> Result<(), PoolPas
 
 /// Stores the value that numbers begin with in the place of the one that begins at an entry; the pool holds it.
 pub fn replace(heap: &mut Heap, toc: &Toc, i: u16, from: &[i64])
-    requires stand { Stand toc.now heap.old }
+    requires stand { Stand toc.now heap.old.lists }
     requires named { IsSome (name_among toc.now.shapes 0 i) }
-    requires fits { bytes_with toc.now heap.old (with_stored toc.now heap.old i from.now) ≤ pool_size }
-    ensures { Stores toc.now heap.old heap.new (with_stored toc.now heap.old i from.now) }
+    requires fits { bytes_with toc.now heap.old.lists (with_stored toc.now heap.old.lists i from.now) ≤ pool_size }
+    ensures { Stores toc.now heap.old.lists heap.new.lists (with_stored toc.now heap.old.lists i from.now) }
 {
     if let Some(shape) = toc.shape(i) {
         let at = Place {
-            home: Home::Static,
+            region: Region::Static,
             entry: i,
             base: 0,
         };
@@ -208,28 +209,36 @@ pub fn replace(heap: &mut Heap, toc: &Toc, i: u16, from: &[i64])
 
 // Stores the value that numbers begin with in the place of another one; the pool holds it.
 fn put(heap: &mut Heap, entries: &[TocEntry], shape: &Shape, at: Place, from: &[i64])
-    requires pool { footprint heap.old ≤ pool_size }
-    requires home { IsHome heap.old at.home }
+    requires pool { footprint heap.old.lists ≤ pool_size }
+    requires region { IsRegion heap.old.lists at.region }
     requires entries { at.entry + size (tree shape.now) < 2 ^ 16 }
-    requires holds { HoldsThere entries.now heap.old (tree shape.now) at }
-    requires own { AreOwn at.home (rows_there entries.now heap.old (tree shape.now) at) }
-    requires room { RoomThere entries.now heap.old (tree shape.now) at }
-    requires fits { needs_for (emptied entries.now heap.old (tree shape.now) at) (tree shape.now) from.now ≤ pool_size }
-    ensures pool { footprint heap.new ≤ pool_size }
-    ensures filled { (rest : List ℤ) × FillsThere entries.now (emptied entries.now heap.old (tree shape.now) at) heap.new (tree shape.now) at from.now rest }
+    requires holds { HoldsThere entries.now heap.old.lists (tree shape.now) at }
+    requires own { AreOwn at.region (rows_there entries.now heap.old.lists (tree shape.now) at) }
+    requires room { RoomThere entries.now heap.old.lists (tree shape.now) at }
+    requires fits { needs_for (emptied entries.now heap.old.lists (tree shape.now) at) (tree shape.now) from.now ≤ pool_size }
+    ensures pool { footprint heap.new.lists ≤ pool_size }
+    ensures filled { (rest : List ℤ) × FillsThere entries.now (emptied entries.now heap.old.lists (tree shape.now) at) heap.new.lists (tree shape.now) at from.now rest }
 {
     let stored = store(heap, entries, shape, at, from);
     prove!(stored.is_ok());
 }
 
+/// How many rows a table has at the start, whose file has so many rows and whose variables have so many lists.
+pub fn rows_for(file_rows: u16, lists: u64) -> u16
+    requires { lists + 1 < 2 ^ 16 }
+    ensures { result ≡ rows_at_start file_rows lists }
+{
+    file_rows.max(lists as u16 + 1)
+}
+
 /// Fills a heap without lists with the variables that numbers spell, and gives how many rows the table of rows then has.
 pub fn fill_start(heap: &mut Heap, toc: &Toc, variables: &[Shape], start: &[i64]) -> u16
-    requires { CanStart toc.now (members (map tree variables.now)) heap.old start.now }
-    ensures stores { Stores toc.now heap.old heap.new (started_as toc.now.shapes start.now) }
-    ensures rows { result ≡ length heap.new.by_row }
+    requires { CanStart toc.now (members (map tree variables.now)) heap.old.lists start.now }
+    ensures stores { Stores toc.now heap.old.lists heap.new.lists (started_as toc.now.shapes start.now) }
+    ensures rows { result ≡ length heap.new.lists.by_row }
 {
     let at = Place {
-        home: Home::Static,
+        region: Region::Static,
         entry: 0,
         base: 0,
     };

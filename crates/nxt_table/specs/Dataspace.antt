@@ -1,5 +1,6 @@
 -- The bytes that a file's variables have at the start.
-use Rattle.std.specs.Prelude.{ℕ, ◌+◌, ◌-◌, ◌&&◌, not, nat_lt, List, ◌++◌, length, take, drop, filter, fold, replicate, slice_range, sum_by}
+use Rattle.std.specs.Prelude.{ℕ, ◌+◌, ◌-◌, ◌&&◌, not, nat_lt, List, ◌++◌, filter, fold, replicate, slice_range, sum_by}
+use Rattle.nxt_facts.specs.PutAt.{put_at}
 use Rattle.nxt_types.specs.Shapes.{Members}
 use Rattle.nxt_rxe.specs.declared.parts.Parts.{Parts}
 use Rattle.nxt_table.specs.Leaves.{Leaf, leaves, width, is_mutex}
@@ -10,10 +11,6 @@ default_place ls l = sum_by width (filter (λ m. m.has_default && nat_lt m.entry
 
 abbrev pub default_end : List Leaf → Leaf → ℕ
 default_end ls l = default_place ls l + width l
-
--- other bytes at a place
-abbrev pub put_at : ℕ → List ℕ → List ℕ → List ℕ
-put_at at bytes into = take at into ++ bytes ++ drop (at + length bytes) into
 
 -- the leaves that have the bytes of their default; those of a mutex are ignored
 abbrev pub set_leaves : List Leaf → List Leaf

@@ -3,7 +3,7 @@
 ghost use Rattle.std.specs.Prelude.{◌≡◌, ◌<◌, ◌≤◌, ◌+◌, ◌-◌, ◌^◌, length, IfOk, IfSome, option_to_list, All, None, true};
 ghost use Rattle.nxt_types.specs.Shapes.{outline};
 ghost use Rattle.nxt_table.specs.Inside.Items.{item};
-ghost use Rattle.nxt_table.specs.Dataspace.{put_at};
+ghost use Rattle.nxt_facts.specs.PutAt.{put_at};
 ghost use Rattle.nxt_table.specs.Inside.LeafPasses.{leaf_list, leaves_from, leaf_by as leaf_with, bytes_of, width_of, passes_end, first_leaf, lacking_from, filled_from, is_mutex_leaf};
 
 use crate::enclosing::NestedEntry;

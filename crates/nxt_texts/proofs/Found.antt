@@ -8,7 +8,7 @@ use Rattle.nxt_model.specs.Devices.{Devices}
 use Rattle.nxt_model.specs.Means.Effects.{Operand, Given, Immediate, Jump, Left, value_of, word_or}
 use Rattle.nxt_model.specs.Means.Strings.{found_number}
 use Rattle.nxt_model.specs.Values.{Num, number, stored}
-use Rattle.nxt_space.specs.Variables.{Variables, AreSound, shape_of, with_value}
+use Rattle.nxt_space.specs.Variables.{SpaceViews, AreSound, shape_of, with_value}
 use Rattle.nxt_space.specs.Outcomes.{Does}
 use Rattle.nxt_operands.specs.Operands.{given_or_left, place_of, place_or_none, values_stored, Done, given}
 use Rattle.nxt_texts.specs.Numerals.{numeral, with_number}
@@ -33,15 +33,15 @@ pub found_short : (o : Option Numeral) (other : Numeral) (k m : ℕ) → IfSome 
 found_short None other k m h less e = e
 found_short (Some n) other k m h less e = omega (arith, h)
 
-pub found_stored : (old mid new : Variables) (dest past at : ℕ) (default : Operand) (r : Option (ℤ × ℕ)) (found : Numeral) (d : Devices) → AreSound old → is_number (shape_of old dest) ≡ true → ((past == 0xFFFF) ≡ false → is_number (shape_of old past) ≡ true) → found ≡ unwrap_or (option_map numeral r) (default_numeral default) → mid ≡ record old { values = with_value old dest (stored (shape_of old dest) (Num (pos found.word))) } → new ≡ with_number mid past (pos (at + found.length)) → Does {T = Unit {0}} Done (values_stored old (place_of old dest ∷ place_or_none old past ∷ []) (found_number r d (given old dest) (given_or_left old past) at default)) old (Ok tt) new
+pub found_stored : (old mid new : SpaceViews) (dest past at : ℕ) (default : Operand) (r : Option (ℤ × ℕ)) (found : Numeral) (d : Devices) → AreSound old.vars → is_number (shape_of old.vars dest) ≡ true → ((past == 0xFFFF) ≡ false → is_number (shape_of old.vars past) ≡ true) → found ≡ unwrap_or (option_map numeral r) (default_numeral default) → mid.vars ≡ record old.vars { values = with_value old.vars dest (stored (shape_of old.vars dest) (Num (pos found.word))) } → new.vars ≡ with_number mid.vars past (pos (at + found.length)) → Does {T = Unit {0}} Done (values_stored old.vars (place_of old.vars dest ∷ place_or_none old.vars past ∷ []) (found_number r d (given old.vars dest) (given_or_left old.vars past) at default)) old (Ok tt) new
 found_stored old mid new dest past at default None found d sound is number e first second =
     let here : at + found.length ≡ at = ap (λ (n : Numeral). at + n.length) e ∙ omega arith in
     both_numbers old mid new dest past (value_of default) (pos found.word) (pos at) d sound is number
-    (word_stored (shape_of old dest) (pos found.word) (value_of default) is (ap (λ (n : Numeral). word (pos n.word)) e ∙ default_word default))
+    (word_stored (shape_of old.vars dest) (pos found.word) (value_of default) is (ap (λ (n : Numeral). word (pos n.word)) e ∙ default_word default))
     first
-    (second ∙ ap (λ n. with_number mid past (pos n)) here)
+    (second ∙ ap (λ n. with_number mid.vars past (pos n)) here)
 found_stored old mid new dest past at default (Some p) found d sound is number e first second =
     both_numbers old mid new dest past (Num p.0) (pos found.word) (pos (at + p.1)) d sound is number
-    (word_stored (shape_of old dest) (pos found.word) (Num p.0) is (ap (λ (n : Numeral). word (pos n.word)) e ∙ word_again p.0))
+    (word_stored (shape_of old.vars dest) (pos found.word) (Num p.0) is (ap (λ (n : Numeral). word (pos n.word)) e ∙ word_again p.0))
     first
-    (second ∙ ap (λ (n : Numeral). with_number mid past (pos (at + n.length))) e)
+    (second ∙ ap (λ (n : Numeral). with_number mid.vars past (pos (at + n.length))) e)

@@ -13,7 +13,7 @@ use Rattle.nxt_model.specs.Means.Text.{packed_size, unpacked}
 use Rattle.nxt_model.specs.Values.{Value, Num, flat, stored, is_of, part, lists_in}
 use Rattle.nxt_model.specs.Variables.{Absent, put, put_all}
 use Rattle.nxt_values.specs.Fills.{filled}
-use Rattle.nxt_space.specs.Variables.{Variables, AreSound, name_of, shape_by, shape_of, value_of, with_by, with_value, with_values, footprint_of}
+use Rattle.nxt_space.specs.Variables.{Variables, SpaceViews, AreSound, name_of, shape_by, shape_of, value_of, with_by, with_value, with_values, footprint_of}
 use Rattle.nxt_space.specs.Outcomes.{Does}
 use Rattle.nxt_space.specs.declared.fault.OpFault.{OpFault}
 use Rattle.nxt_space.specs.declared.fault.OpFault.TheVariants.{PoolPassed, NoMemory}
@@ -89,31 +89,31 @@ rows_if false s i z vars e =
     let w = with_by (name_of s i) (stored (shape_of s i) (Num z)) vars in
     ap {A = ℕ} (λ l. record s { values = w; rows = max s.rows (l + 1) }) (sym e.lists)
 
-pub set_beside : (s between new : Variables) (i : ℕ) (vars : Value) (z x : ℤ) → is_of (Cluster s.shapes) vars ≡ true → ((i == 0xFFFF) ≡ false → is_number (shape_of s i) ≡ true) → x ≡ z → Does {T = Unit {0}} Done vars s (Ok tt) between → new ≡ with_number between i x → Does {T = Unit {0}} Done (told_in s i z vars) s (Ok tt) new
+pub set_beside : (s between new : SpaceViews) (i : ℕ) (vars : Value) (z x : ℤ) → is_of (Cluster s.vars.shapes) vars ≡ true → ((i == 0xFFFF) ≡ false → is_number (shape_of s.vars i) ≡ true) → x ≡ z → Does {T = Unit {0}} Done vars s (Ok tt) between → new.vars ≡ with_number between.vars i x → Does {T = Unit {0}} Done (told_in s.vars i z vars) s (Ok tt) new
 set_beside s between new i vars z x of number same h set =
-    let sizes = told_sizes s i z vars of number in (
-      subst (λ n. n ≤ pool_size) (sym (same_footprint s vars (told_in s i z vars) sizes)) h.0,
-      set ∙ ap₂ (λ n y. with_number n i y) h.1 same ∙ rows_if (i == 0xFFFF) s i z vars sizes,
+    let sizes = told_sizes s.vars i z vars of number in (
+      subst (λ n. n ≤ pool_size) (sym (same_footprint s.vars vars (told_in s.vars i z vars) sizes)) h.0,
+      set ∙ ap₂ (λ n y. with_number n i y) h.1 same ∙ rows_if (i == 0xFFFF) s.vars i z vars sizes,
       tt,
     )
 
 -- beside what numbers spell
-pub told_set : (s between new : Variables) (dest i : ℕ) (zs : List ℤ) (z x : ℤ) → AreSound s → ((i == 0xFFFF) ≡ false → is_number (shape_of s i) ≡ true) → x ≡ z → let vars = with_value s dest (filled (shape_of s dest) zs).0 in Does {T = Unit {0}} Done vars s (Ok tt) between → new ≡ with_number between i x → Does {T = Unit {0}} Done (told_in s i z vars) s (Ok tt) new
+pub told_set : (s between new : SpaceViews) (dest i : ℕ) (zs : List ℤ) (z x : ℤ) → AreSound s.vars → ((i == 0xFFFF) ≡ false → is_number (shape_of s.vars i) ≡ true) → x ≡ z → let vars = with_value s.vars dest (filled (shape_of s.vars dest) zs).0 in Does {T = Unit {0}} Done vars s (Ok tt) between → new.vars ≡ with_number between.vars i x → Does {T = Unit {0}} Done (told_in s.vars i z vars) s (Ok tt) new
 told_set s between new dest i zs z x sound number same h set =
-    set_beside s between new i (with_value s dest (filled (shape_of s dest) zs).0) z x (filled_of s dest zs sound) number same h set
+    set_beside s between new i (with_value s.vars dest (filled (shape_of s.vars dest) zs).0) z x (filled_of s.vars dest zs sound) number same h set
 
 -- a refused store refuses the statement
-told_fault : (s new : Variables) (dest i : ℕ) (zs : List ℤ) (z : ℤ) (fault : OpFault) → AreSound s → ((i == 0xFFFF) ≡ false → is_number (shape_of s i) ≡ true) → let vars = with_value s dest (filled (shape_of s dest) zs).0 in Does {T = Unit {0}} Done vars s (Err fault) new → Does {T = Unit {0}} Done (told_in s i z vars) s (Err fault) new
+told_fault : (s new : SpaceViews) (dest i : ℕ) (zs : List ℤ) (z : ℤ) (fault : OpFault) → AreSound s.vars → ((i == 0xFFFF) ≡ false → is_number (shape_of s.vars i) ≡ true) → let vars = with_value s.vars dest (filled (shape_of s.vars dest) zs).0 in Does {T = Unit {0}} Done vars s (Err fault) new → Does {T = Unit {0}} Done (told_in s.vars i z vars) s (Err fault) new
 told_fault s new dest i zs z (PoolPassed bytes) sound number h =
-    let vars = with_value s dest (filled (shape_of s dest) zs).0 in
-    let same = same_footprint s vars (told_in s i z vars) (told_sizes s i z vars (filled_of s dest zs sound) number) in
+    let vars = with_value s.vars dest (filled (shape_of s.vars dest) zs).0 in
+    let same = same_footprint s.vars vars (told_in s.vars i z vars) (told_sizes s.vars i z vars (filled_of s.vars dest zs sound) number) in
     (subst (λ n. pool_size < n) (sym same) h.0, h.1 ∙ sym same, h.2)
 told_fault s new dest i zs z NoMemory sound number h = h
 
-pub told_refused : (s new : Variables) (dest i : ℕ) (zs : List ℤ) (z : ℤ) (fault : OpFault) (r : Result Unit OpFault) → AreSound s → ((i == 0xFFFF) ≡ false → is_number (shape_of s i) ≡ true) → let vars = with_value s dest (filled (shape_of s dest) zs).0 in IsErrAnd r (λ f. f ≡ fault) → Does {T = Unit {0}} Done vars s (Err fault) new → Does {T = Unit {0}} Done (told_in s i z vars) s r new
+pub told_refused : (s new : SpaceViews) (dest i : ℕ) (zs : List ℤ) (z : ℤ) (fault : OpFault) (r : Result Unit OpFault) → AreSound s.vars → ((i == 0xFFFF) ≡ false → is_number (shape_of s.vars i) ≡ true) → let vars = with_value s.vars dest (filled (shape_of s.vars dest) zs).0 in IsErrAnd r (λ f. f ≡ fault) → Does {T = Unit {0}} Done vars s (Err fault) new → Does {T = Unit {0}} Done (told_in s.vars i z vars) s r new
 told_refused s new dest i zs z fault r sound number e h =
-    let vars = with_value s dest (filled (shape_of s dest) zs).0 in
-    passed_on Done Done (told_in s i z vars) s new fault r e (told_fault s new dest i zs z fault sound number h)
+    let vars = with_value s.vars dest (filled (shape_of s.vars dest) zs).0 in
+    passed_on Done Done (told_in s.vars i z vars) s new fault r e (told_fault s new dest i zs z fault sound number h)
 
 -- ---- what a statement stores in two places
 
@@ -127,11 +127,11 @@ told_if false s dest i v z d =
 pub value_and_number : (s : Variables) (dest i : ℕ) (v : Value) (z : ℤ) (d : Devices) → values_stored s (place_of s dest ∷ place_or_none s i ∷ []) (effect (store 0 (given s dest) v ++ store 1 (given_or_left s i) (Num z)) d) ≡ told_in s i z (with_value s dest (stored (shape_of s dest) v))
 value_and_number s dest i v z d = told_if (i == 0xFFFF) s dest i v z d
 
-pub told_value : (s new : Variables) (dest i : ℕ) (v : Value) (zs : List ℤ) (z : ℤ) (result : Result Unit OpFault) (d : Devices) → IsStorable s dest v zs → Does {T = Unit {0}} Done (told_in s i z (with_value s dest (filled (shape_of s dest) zs).0)) s result new → Does {T = Unit {0}} Done (values_stored s (place_of s dest ∷ place_or_none s i ∷ []) (effect (store 0 (given s dest) v ++ store 1 (given_or_left s i) (Num z)) d)) s result new
+pub told_value : (s new : SpaceViews) (dest i : ℕ) (v : Value) (zs : List ℤ) (z : ℤ) (result : Result Unit OpFault) (d : Devices) → IsStorable s.vars dest v zs → Does {T = Unit {0}} Done (told_in s.vars i z (with_value s.vars dest (filled (shape_of s.vars dest) zs).0)) s result new → Does {T = Unit {0}} Done (values_stored s.vars (place_of s.vars dest ∷ place_or_none s.vars i ∷ []) (effect (store 0 (given s.vars dest) v ++ store 1 (given_or_left s.vars i) (Num z)) d)) s result new
 told_value s new dest i v zs z result d e h =
     subst
     (λ w. Does {T = Unit {0}} Done w s result new)
-    (ap (λ x. told_in s i z (with_value s dest x)) e.filled ∙ sym (value_and_number s dest i v z d))
+    (ap (λ x. told_in s.vars i z (with_value s.vars dest x)) e.filled ∙ sym (value_and_number s.vars dest i v z d))
     h
 
 -- ---- what bytes are unpacked to
@@ -169,20 +169,20 @@ unpacked_storable s dest i bytes zs sound there some none fits is =
 -- ---- the statement
 
 -- the error is 0 where the text is long enough, and else 1
-pub unflatten_found : (s new : Variables) (dest error source i : ℕ) (zs : List ℤ) (result : Result Unit OpFault) (d : Devices) → IsFound s source i zs → IsStorable s dest (unpacked (shape_of s i) (text_at s source)) zs → Does {T = Unit {0}} Done (told_in s error (pos 0) (with_value s dest (filled (shape_of s dest) zs).0)) s result new → Does {T = Unit {0}} Done (values_stored s (place_of s dest ∷ place_or_none s error ∷ []) (unflatten d (given s dest) (given_or_left s error) (given s source) (given s i))) s result new
+pub unflatten_found : (s new : SpaceViews) (dest error source i : ℕ) (zs : List ℤ) (result : Result Unit OpFault) (d : Devices) → IsFound s.vars source i zs → IsStorable s.vars dest (unpacked (shape_of s.vars i) (text_at s.vars source)) zs → Does {T = Unit {0}} Done (told_in s.vars error (pos 0) (with_value s.vars dest (filled (shape_of s.vars dest) zs).0)) s result new → Does {T = Unit {0}} Done (values_stored s.vars (place_of s.vars dest ∷ place_or_none s.vars error ∷ []) (unflatten d (given s.vars dest) (given_or_left s.vars error) (given s.vars source) (given s.vars i))) s result new
 unflatten_found s new dest error source i zs result d found e h =
-    let v = unpacked (shape_of s i) (text_at s source) in
-    let told : ℤ → Value → Effect = λ z w. effect (store 0 (given s dest) w ++ store 1 (given_or_left s error) (Num z)) d in
+    let v = unpacked (shape_of s.vars i) (text_at s.vars source) in
+    let told : ℤ → Value → Effect = λ z w. effect (store 0 (given s.vars dest) w ++ store 1 (given_or_left s.vars error) (Num z)) d in
     subst
-    (λ b. Does {T = Unit {0}} Done (values_stored s (place_of s dest ∷ place_or_none s error ∷ []) (if b then told (pos 0) v else told (pos 1) (value_of s i))) s result new)
-    (sym (le-leb (packed_size (shape_of s i)) (length (text_at s source)) found.fits))
+    (λ b. Does {T = Unit {0}} Done (values_stored s.vars (place_of s.vars dest ∷ place_or_none s.vars error ∷ []) (if b then told (pos 0) v else told (pos 1) (value_of s.vars i))) s result new)
+    (sym (le-leb (packed_size (shape_of s.vars i)) (length (text_at s.vars source)) found.fits))
     (told_value s new dest error v zs (pos 0) result d e h)
 
-pub unflatten_short : (s new : Variables) (dest error source i : ℕ) (zs : List ℤ) (result : Result Unit OpFault) (d : Devices) → length (text_at s source) < packed_size (shape_of s i) → IsStorable s dest (value_of s i) zs → Does {T = Unit {0}} Done (told_in s error (pos 1) (with_value s dest (filled (shape_of s dest) zs).0)) s result new → Does {T = Unit {0}} Done (values_stored s (place_of s dest ∷ place_or_none s error ∷ []) (unflatten d (given s dest) (given_or_left s error) (given s source) (given s i))) s result new
+pub unflatten_short : (s new : SpaceViews) (dest error source i : ℕ) (zs : List ℤ) (result : Result Unit OpFault) (d : Devices) → length (text_at s.vars source) < packed_size (shape_of s.vars i) → IsStorable s.vars dest (value_of s.vars i) zs → Does {T = Unit {0}} Done (told_in s.vars error (pos 1) (with_value s.vars dest (filled (shape_of s.vars dest) zs).0)) s result new → Does {T = Unit {0}} Done (values_stored s.vars (place_of s.vars dest ∷ place_or_none s.vars error ∷ []) (unflatten d (given s.vars dest) (given_or_left s.vars error) (given s.vars source) (given s.vars i))) s result new
 unflatten_short s new dest error source i zs result d short e h =
-    let v = unpacked (shape_of s i) (text_at s source) in
-    let told : ℤ → Value → Effect = λ z w. effect (store 0 (given s dest) w ++ store 1 (given_or_left s error) (Num z)) d in
+    let v = unpacked (shape_of s.vars i) (text_at s.vars source) in
+    let told : ℤ → Value → Effect = λ z w. effect (store 0 (given s.vars dest) w ++ store 1 (given_or_left s.vars error) (Num z)) d in
     subst
-    (λ b. Does {T = Unit {0}} Done (values_stored s (place_of s dest ∷ place_or_none s error ∷ []) (if b then told (pos 0) v else told (pos 1) (value_of s i))) s result new)
-    (sym (lt-leb (packed_size (shape_of s i)) (length (text_at s source)) short))
-    (told_value s new dest error (value_of s i) zs (pos 1) result d e h)
+    (λ b. Does {T = Unit {0}} Done (values_stored s.vars (place_of s.vars dest ∷ place_or_none s.vars error ∷ []) (if b then told (pos 0) v else told (pos 1) (value_of s.vars i))) s result new)
+    (sym (lt-leb (packed_size (shape_of s.vars i)) (length (text_at s.vars source)) short))
+    (told_value s new dest error (value_of s.vars i) zs (pos 1) result d e h)

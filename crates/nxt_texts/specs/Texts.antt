@@ -6,7 +6,7 @@ use Rattle.nxt_model.specs.Devices.{Devices}
 use Rattle.nxt_model.specs.Means.Effects.{gives}
 use Rattle.nxt_model.specs.Means.Text.{body}
 use Rattle.nxt_model.specs.Values.{byte_list, bytes_of}
-use Rattle.nxt_space.specs.Variables.{Variables, value_of}
+use Rattle.nxt_space.specs.Variables.{Variables, SpaceViews, value_of}
 use Rattle.nxt_space.specs.Outcomes.{Does}
 use Rattle.nxt_space.specs.declared.fault.OpFault.{OpFault}
 use Rattle.nxt_operands.specs.Operands.{Done, given, place_of, values_stored}
@@ -34,6 +34,6 @@ abbrev pub flat_bytes : List ℕ → List ℤ
 flat_bytes bytes = pos (length bytes) ∷ map pos bytes
 
 -- the statement stores these bytes at an entry
-abbrev pub StoresBytes : Variables → ℕ → List ℕ → Result Unit OpFault → Variables → Type 0
+abbrev pub StoresBytes : SpaceViews → ℕ → List ℕ → Result Unit OpFault → SpaceViews → Type 0
 StoresBytes old dest bytes result new =
-    (d : Devices) → Does Done (values_stored old (place_of old dest ∷ []) (gives (given old dest) (byte_list bytes) d)) old result new
+    (d : Devices) → Does Done (values_stored old.vars (place_of old.vars dest ∷ []) (gives (given old.vars dest) (byte_list bytes) d)) old result new

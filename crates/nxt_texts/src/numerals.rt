@@ -36,12 +36,12 @@ pub fn number_to_string(
     dest: u16,
     number: u16,
 ) -> Result<(), OpFault>
-    requires sound { AreSound space.old }
-    requires dest { IsSome (name_of space.old dest) }
-    requires number { IsSome (name_of space.old number) }
-    requires text { is_text (shape_of space.old dest) ≡ true }
-    requires is_number { is_number (shape_of space.old number) ≡ true }
-    ensures { (d : Devices) → Does Done (values_stored space.old (place_of space.old dest ∷ []) (to_string_means d (given space.old dest) (given space.old number))) space.old result space.new }
+    requires sound { AreSound space.old.vars }
+    requires dest { IsSome (name_of space.old.vars dest) }
+    requires number { IsSome (name_of space.old.vars number) }
+    requires text { is_text (shape_of space.old.vars dest) ≡ true }
+    requires is_number { is_number (shape_of space.old.vars number) ≡ true }
+    ensures { (d : Devices) → Does Done (values_stored space.old.vars (place_of space.old.vars dest ∷ []) (to_string_means d (given space.old.vars dest) (given space.old.vars number))) space.old result space.new }
 {
     let digits = decimal(alloc, space.get(number))?;
     store_text(alloc, space, dest, digits.as_bytes())
@@ -65,13 +65,13 @@ pub fn string_to_number(
     offset: u16,
     default: u16,
 ) -> Result<(), OpFault>
-    requires sound { AreSound space.old }
-    requires dest { IsSome (name_of space.old dest) }
-    requires source { IsSome (name_of space.old source) }
-    requires number { is_number (shape_of space.old dest) ≡ true }
-    requires past { (past == 0xFFFF) ≡ false → is_number (shape_of space.old past) ≡ true }
-    requires source_text { is_text (shape_of space.old source) ≡ true }
-    ensures { (d : Devices) → Does Done (values_stored space.old (place_of space.old dest ∷ place_or_none space.old past ∷ []) (to_number_means d (given space.old dest) (given_or_left space.old past) (given space.old source) (given_or_left space.old offset) (given_or_left space.old default))) space.old result space.new }
+    requires sound { AreSound space.old.vars }
+    requires dest { IsSome (name_of space.old.vars dest) }
+    requires source { IsSome (name_of space.old.vars source) }
+    requires number { is_number (shape_of space.old.vars dest) ≡ true }
+    requires past { (past == 0xFFFF) ≡ false → is_number (shape_of space.old.vars past) ≡ true }
+    requires source_text { is_text (shape_of space.old.vars source) ≡ true }
+    ensures { (d : Devices) → Does Done (values_stored space.old.vars (place_of space.old.vars dest ∷ place_or_none space.old.vars past ∷ []) (to_number_means d (given space.old.vars dest) (given_or_left space.old.vars past) (given space.old.vars source) (given_or_left space.old.vars offset) (given_or_left space.old.vars default))) space.old result space.new }
 {
     let text = text_of(alloc, space, source)?;
     let at = word_or(space, offset, 0);

@@ -10,8 +10,8 @@ use nxt_types::words::LEFT_OUT;
 
 /// Stores a number, cut to its kind, where the operand isn't left out.
 pub fn set_unless_left_out(space: &mut Space, i: u16, number: i64)
-    requires { (i == 0xFFFF) ≡ false → is_number (shape_of space.old i) ≡ true }
-    ensures { space.new ≡ with_number space.old i number }
+    requires { (i == 0xFFFF) ≡ false → is_number (shape_of space.old.vars i) ≡ true }
+    ensures { space.new.vars ≡ with_number space.old.vars i number }
 {
     if i != LEFT_OUT {
         space.set(i, number);

@@ -31,12 +31,12 @@ use std::alloc::Global;
 
 /// Stores the bytes of a value without lists, low bytes first and members in order, and a zero.
 pub fn flatten(alloc: Global, space: &mut Space, dest: u16, value: u16) -> Result<(), OpFault>
-    requires sound { AreSound space.old }
-    requires dest { IsSome (name_of space.old dest) }
-    requires value { IsSome (name_of space.old value) }
-    requires text { is_text (shape_of space.old dest) ≡ true }
-    requires no_list { has_list (shape_of space.old value) ≡ false }
-    ensures { (d : Devices) → Does Done (values_stored space.old (place_of space.old dest ∷ []) (flatten_means d (given space.old dest) (given space.old value))) space.old result space.new }
+    requires sound { AreSound space.old.vars }
+    requires dest { IsSome (name_of space.old.vars dest) }
+    requires value { IsSome (name_of space.old.vars value) }
+    requires text { is_text (shape_of space.old.vars dest) ≡ true }
+    requires no_list { has_list (shape_of space.old.vars value) ≡ false }
+    ensures { (d : Devices) → Does Done (values_stored space.old.vars (place_of space.old.vars dest ∷ []) (flatten_means d (given space.old.vars dest) (given space.old.vars value))) space.old result space.new }
 {
     let bytes = packed_of(alloc, space, value)?;
     store_text(alloc, space, dest, bytes.as_slice())
@@ -44,10 +44,10 @@ pub fn flatten(alloc: Global, space: &mut Space, dest: u16, value: u16) -> Resul
 
 // The bytes of a value without lists.
 fn packed_of(alloc: Global, space: &Space, i: u16) -> Result<Bytes, NoMemory>
-    requires sound { AreSound space.now }
-    requires named { IsSome (name_of space.now i) }
-    requires no_list { has_list (shape_of space.now i) ≡ false }
-    ensures { IfOk result (λ bytes. bytes ≡ packed (shape_of space.now i) (value_of space.now i)) }
+    requires sound { AreSound space.now.vars }
+    requires named { IsSome (name_of space.now.vars i) }
+    requires no_list { has_list (shape_of space.now.vars i) ≡ false }
+    ensures { IfOk result (λ bytes. bytes ≡ packed (shape_of space.now.vars i) (value_of space.now.vars i)) }
 {
     let mut bytes = Bytes::new(alloc);
     let Some(shape) = space.shape(i) else {
@@ -120,15 +120,15 @@ pub fn unflatten(
     source: u16,
     kind_of: u16,
 ) -> Result<(), OpFault>
-    requires sound { AreSound space.old }
-    requires dest { IsSome (name_of space.old dest) }
-    requires source { IsSome (name_of space.old source) }
-    requires kind_of { IsSome (name_of space.old kind_of) }
-    requires error { (error == 0xFFFF) ≡ false → is_number (shape_of space.old error) ≡ true }
-    requires source_text { is_text (shape_of space.old source) ≡ true }
-    requires no_list { has_list (shape_of space.old kind_of) ≡ false }
-    requires fit { convertible (shape_of space.old dest) (shape_of space.old kind_of) ≡ true }
-    ensures { (d : Devices) → Does Done (values_stored space.old (place_of space.old dest ∷ place_or_none space.old error ∷ []) (unflatten_means d (given space.old dest) (given_or_left space.old error) (given space.old source) (given space.old kind_of))) space.old result space.new }
+    requires sound { AreSound space.old.vars }
+    requires dest { IsSome (name_of space.old.vars dest) }
+    requires source { IsSome (name_of space.old.vars source) }
+    requires kind_of { IsSome (name_of space.old.vars kind_of) }
+    requires error { (error == 0xFFFF) ≡ false → is_number (shape_of space.old.vars error) ≡ true }
+    requires source_text { is_text (shape_of space.old.vars source) ≡ true }
+    requires no_list { has_list (shape_of space.old.vars kind_of) ≡ false }
+    requires fit { convertible (shape_of space.old.vars dest) (shape_of space.old.vars kind_of) ≡ true }
+    ensures { (d : Devices) → Does Done (values_stored space.old.vars (place_of space.old.vars dest ∷ place_or_none space.old.vars error ∷ []) (unflatten_means d (given space.old.vars dest) (given_or_left space.old.vars error) (given space.old.vars source) (given space.old.vars kind_of))) space.old result space.new }
 {
     let text = text_of(alloc, space, source)?;
     let found = unpacked_of(alloc, space, kind_of, text.as_slice())?;
@@ -143,8 +143,8 @@ pub fn unflatten(
 
 // The flat form of the value of another one's shape that the bytes begin with; none where there are too few.
 fn unpacked_of(alloc: Global, space: &Space, i: u16, bytes: &[u8]) -> Result<Option<Flat>, NoMemory>
-    requires { IsSome (name_of space.now i) }
-    ensures { IfOk result (λ found. MatchOption found (length bytes.now < packed_size (shape_of space.now i)) (λ flat. (packed_size (shape_of space.now i) ≤ length bytes.now) × (flat ≡ flat_form (unpacked (shape_of space.now i) bytes.now)))) }
+    requires { IsSome (name_of space.now.vars i) }
+    ensures { IfOk result (λ found. MatchOption found (length bytes.now < packed_size (shape_of space.now.vars i)) (λ flat. (packed_size (shape_of space.now.vars i) ≤ length bytes.now) × (flat ≡ flat_form (unpacked (shape_of space.now.vars i) bytes.now)))) }
 {
     let Some(shape) = space.shape(i) else {
         return Ok(None);
@@ -218,11 +218,11 @@ fn store_and_tell(
     error: u16,
     told: i64,
 ) -> Result<(), OpFault>
-    requires sound { AreSound space.old }
-    requires dest { IsSome (name_of space.old dest) }
-    requires error { (error == 0xFFFF) ≡ false → is_number (shape_of space.old error) ≡ true }
-    requires countable { IsCountable (size_of_filled (shape_of space.old dest) flat.now) }
-    ensures { Does Done (told_in space.old error told (with_value space.old dest (filled (shape_of space.old dest) flat.now).0)) space.old result space.new }
+    requires sound { AreSound space.old.vars }
+    requires dest { IsSome (name_of space.old.vars dest) }
+    requires error { (error == 0xFFFF) ≡ false → is_number (shape_of space.old.vars error) ≡ true }
+    requires countable { IsCountable (size_of_filled (shape_of space.old.vars dest) flat.now) }
+    ensures { Does Done (told_in space.old.vars error told (with_value space.old.vars dest (filled (shape_of space.old.vars dest) flat.now).0)) space.old result space.new }
 {
     store(space, dest, flat)?;
     set_unless_left_out(space, error, told);

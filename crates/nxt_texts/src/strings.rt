@@ -24,13 +24,13 @@ pub fn concatenate(
     dest: u16,
     sources: &[u16],
 ) -> Result<(), OpFault>
-    requires sound { AreSound space.old }
-    requires dest { IsSome (name_of space.old dest) }
-    requires text { is_text (shape_of space.old dest) ≡ true }
+    requires sound { AreSound space.old.vars }
+    requires dest { IsSome (name_of space.old.vars dest) }
+    requires text { is_text (shape_of space.old.vars dest) ≡ true }
     requires few { length sources.now < 2 ^ 16 }
-    requires sources { All (λ i. IsSome (name_of space.old i)) sources.now }
-    requires texts { All (λ i. is_text (shape_of space.old i) ≡ true) sources.now }
-    ensures { (d : Devices) → Does Done (values_stored space.old (place_of space.old dest ∷ []) (concatenate_means d (given space.old dest ∷ map (given space.old) sources.now))) space.old result space.new }
+    requires sources { All (λ i. IsSome (name_of space.old.vars i)) sources.now }
+    requires texts { All (λ i. is_text (shape_of space.old.vars i) ≡ true) sources.now }
+    ensures { (d : Devices) → Does Done (values_stored space.old.vars (place_of space.old.vars dest ∷ []) (concatenate_means d (given space.old.vars dest ∷ map (given space.old.vars) sources.now))) space.old result space.new }
 {
     // The pool is asked before the bodies are put together, since they may be far longer than it.
     let length = bodies_length(alloc, space, sources)?;
@@ -50,12 +50,12 @@ pub fn substring(
     at: u16,
     count: u16,
 ) -> Result<(), OpFault>
-    requires sound { AreSound space.old }
-    requires dest { IsSome (name_of space.old dest) }
-    requires source { IsSome (name_of space.old source) }
-    requires text { is_text (shape_of space.old dest) ≡ true }
-    requires source_text { is_text (shape_of space.old source) ≡ true }
-    ensures { (d : Devices) → Does Done (values_stored space.old (place_of space.old dest ∷ []) (substring_means d (given space.old dest) (given space.old source) (given_or_left space.old at) (given_or_left space.old count))) space.old result space.new }
+    requires sound { AreSound space.old.vars }
+    requires dest { IsSome (name_of space.old.vars dest) }
+    requires source { IsSome (name_of space.old.vars source) }
+    requires text { is_text (shape_of space.old.vars dest) ≡ true }
+    requires source_text { is_text (shape_of space.old.vars source) ≡ true }
+    ensures { (d : Devices) → Does Done (values_stored space.old.vars (place_of space.old.vars dest ∷ []) (substring_means d (given space.old.vars dest) (given space.old.vars source) (given_or_left space.old.vars at) (given_or_left space.old.vars count))) space.old result space.new }
 {
     let text = text_of(alloc, space, source)?;
     let bytes = body(text.as_slice());
@@ -71,12 +71,12 @@ pub fn string_to_array(
     dest: u16,
     source: u16,
 ) -> Result<(), OpFault>
-    requires sound { AreSound space.old }
-    requires dest { IsSome (name_of space.old dest) }
-    requires source { IsSome (name_of space.old source) }
-    requires text { is_text (shape_of space.old dest) ≡ true }
-    requires source_text { is_text (shape_of space.old source) ≡ true }
-    ensures { (d : Devices) → Does Done (values_stored space.old (place_of space.old dest ∷ []) (to_array_means d (given space.old dest) (given space.old source))) space.old result space.new }
+    requires sound { AreSound space.old.vars }
+    requires dest { IsSome (name_of space.old.vars dest) }
+    requires source { IsSome (name_of space.old.vars source) }
+    requires text { is_text (shape_of space.old.vars dest) ≡ true }
+    requires source_text { is_text (shape_of space.old.vars source) ≡ true }
+    ensures { (d : Devices) → Does Done (values_stored space.old.vars (place_of space.old.vars dest ∷ []) (to_array_means d (given space.old.vars dest) (given space.old.vars source))) space.old result space.new }
 {
     let text = text_of(alloc, space, source)?;
     store_bytes(alloc, space, dest, body(text.as_slice()))
@@ -89,12 +89,12 @@ pub fn array_to_string(
     dest: u16,
     source: u16,
 ) -> Result<(), OpFault>
-    requires sound { AreSound space.old }
-    requires dest { IsSome (name_of space.old dest) }
-    requires source { IsSome (name_of space.old source) }
-    requires text { is_text (shape_of space.old dest) ≡ true }
-    requires source_text { is_text (shape_of space.old source) ≡ true }
-    ensures { (d : Devices) → Does Done (values_stored space.old (place_of space.old dest ∷ []) (to_string_means d (given space.old dest) (given space.old source))) space.old result space.new }
+    requires sound { AreSound space.old.vars }
+    requires dest { IsSome (name_of space.old.vars dest) }
+    requires source { IsSome (name_of space.old.vars source) }
+    requires text { is_text (shape_of space.old.vars dest) ≡ true }
+    requires source_text { is_text (shape_of space.old.vars source) ≡ true }
+    ensures { (d : Devices) → Does Done (values_stored space.old.vars (place_of space.old.vars dest ∷ []) (to_string_means d (given space.old.vars dest) (given space.old.vars source))) space.old result space.new }
 {
     let text = text_of(alloc, space, source)?;
     store_text(alloc, space, dest, text.as_slice())
@@ -102,11 +102,11 @@ pub fn array_to_string(
 
 // How many bytes the bodies of texts have.
 fn bodies_length(alloc: Global, space: &Space, sources: &[u16]) -> Result<u64, NoMemory>
-    requires sound { AreSound space.now }
+    requires sound { AreSound space.now.vars }
     requires few { length sources.now < 2 ^ 16 }
-    requires sources { All (λ i. IsSome (name_of space.now i)) sources.now }
-    requires texts { All (λ i. is_text (shape_of space.now i) ≡ true) sources.now }
-    ensures length { IfOk result (λ n. n ≡ length (bodies_at space.now sources.now)) }
+    requires sources { All (λ i. IsSome (name_of space.now.vars i)) sources.now }
+    requires texts { All (λ i. is_text (shape_of space.now.vars i) ≡ true) sources.now }
+    ensures length { IfOk result (λ n. n ≡ length (bodies_at space.now.vars sources.now)) }
     ensures few { IfOk result (λ n. n < 2 ^ 31) }
 {
     let mut length = 0;
@@ -119,10 +119,10 @@ fn bodies_length(alloc: Global, space: &Space, sources: &[u16]) -> Result<u64, N
 
 // The bodies of texts, one after another.
 fn bodies(alloc: Global, space: &Space, sources: &[u16]) -> Result<Bytes, NoMemory>
-    requires sound { AreSound space.now }
-    requires sources { All (λ i. IsSome (name_of space.now i)) sources.now }
-    requires texts { All (λ i. is_text (shape_of space.now i) ≡ true) sources.now }
-    ensures { IfOk result (λ bytes. bytes ≡ bodies_at space.now sources.now) }
+    requires sound { AreSound space.now.vars }
+    requires sources { All (λ i. IsSome (name_of space.now.vars i)) sources.now }
+    requires texts { All (λ i. is_text (shape_of space.now.vars i) ≡ true) sources.now }
+    ensures { IfOk result (λ bytes. bytes ≡ bodies_at space.now.vars sources.now) }
 {
     let mut bytes = Bytes::new(alloc);
     for source in sources {

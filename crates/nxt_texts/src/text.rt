@@ -18,10 +18,10 @@ use std::alloc::Global;
 
 /// The bytes of the text that begins at an entry.
 pub fn text_of(alloc: Global, space: &Space, i: u16) -> Result<Bytes, NoMemory>
-    requires sound { AreSound space.now }
-    requires named { IsSome (name_of space.now i) }
-    requires text { is_text (shape_of space.now i) ≡ true }
-    ensures bytes { IfOk result (λ bytes. bytes ≡ text_at space.now i) }
+    requires sound { AreSound space.now.vars }
+    requires named { IsSome (name_of space.now.vars i) }
+    requires text { is_text (shape_of space.now.vars i) ≡ true }
+    ensures bytes { IfOk result (λ bytes. bytes ≡ text_at space.now.vars i) }
     ensures few { IfOk result (λ bytes. length bytes ≤ pool_size) }
 {
     let numbers = numbers_of(alloc, space, i)?;
@@ -74,9 +74,9 @@ pub fn section(bytes: &[u8], at: u32, count: u32) -> &[u8]
 
 /// Stores bytes and a zero.
 pub fn store_text(alloc: Global, space: &mut Space, dest: u16, bytes: &[u8]) -> Result<(), OpFault>
-    requires sound { AreSound space.old }
-    requires named { IsSome (name_of space.old dest) }
-    requires text { is_text (shape_of space.old dest) ≡ true }
+    requires sound { AreSound space.old.vars }
+    requires named { IsSome (name_of space.old.vars dest) }
+    requires text { is_text (shape_of space.old.vars dest) ≡ true }
     requires few { length bytes.now + 1 < 2 ^ 32 }
     ensures { StoresBytes space.old dest (ended bytes.now) result space.new }
 {
@@ -95,9 +95,9 @@ fn with_zero(alloc: Global, bytes: &[u8]) -> Result<Bytes, NoMemory>
 
 /// Stores a list of bytes.
 pub fn store_bytes(alloc: Global, space: &mut Space, dest: u16, bytes: &[u8]) -> Result<(), OpFault>
-    requires sound { AreSound space.old }
-    requires named { IsSome (name_of space.old dest) }
-    requires text { is_text (shape_of space.old dest) ≡ true }
+    requires sound { AreSound space.old.vars }
+    requires named { IsSome (name_of space.old.vars dest) }
+    requires text { is_text (shape_of space.old.vars dest) ≡ true }
     requires few { length bytes.now < 2 ^ 32 }
     ensures { StoresBytes space.old dest bytes.now result space.new }
 {

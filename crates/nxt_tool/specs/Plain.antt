@@ -42,21 +42,21 @@ AllFit ss code = (k : ℕ) (x : ℕ × Statement) → slice_get code k ≡ Some 
 
 -- the table is that of the variables, and the code is that of the words, whose statements are fit and run
 pub record IsProgram (p : Program) : Type 0 where
-  pub entries : p.toc.entries ≡ p.space.entries
-  pub shapes : p.toc.shapes ≡ p.space.shapes
+  pub entries : p.toc.entries ≡ p.space.vars.entries
+  pub shapes : p.toc.shapes ≡ p.space.vars.shapes
   pub code : IsDecoded p.code.words p.code.decoded
-  pub fit : AllFit p.space.shapes (statements p.code.words)
-  pub built : are_built p.space.shapes (statements p.code.words) ≡ true
+  pub fit : AllFit p.space.vars.shapes (statements p.code.words)
+  pub built : are_built p.space.vars.shapes (statements p.code.words) ≡ true
 
 -- the image that it runs
 abbrev pub image_in : Program → Image
-image_in p = image_of p.space p.code.words
+image_in p = image_of p.space.vars p.code.words
 
 -- it is at its start
 pub record IsAtStart (p : Program) : Type 0 where
-  pub values : p.space.values ≡ p.space.start
-  pub rows : p.space.rows ≡ p.space.start_rows
-  pub enough : lists_in p.space.start < p.space.start_rows
+  pub values : p.space.vars.values ≡ p.space.vars.start
+  pub rows : p.space.vars.rows ≡ p.space.vars.start_rows
+  pub enough : lists_in p.space.vars.start < p.space.vars.start_rows
 
 -- ---- states
 

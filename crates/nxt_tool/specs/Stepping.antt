@@ -25,4 +25,4 @@ stepped_by Stays make place turn = stepped (make place turn None) []
 -- a bytecode at a place makes this of a program and its motors, as the statement there said
 abbrev pub Steps : Program → Program → List (List ℤ) → List (List ℤ) → ℕ → Next → Type 0
 Steps old new motors moved place next =
-    (clock turn : ℕ) → bytecode (program_of (image_in old)) (state_of old.space motors clock place turn None) ≡ stepped_by next (state_of new.space moved clock) place turn
+    (clock turn : ℕ) → bytecode (program_of (image_in old)) (state_of old.space.vars motors clock place turn None) ≡ stepped_by next (state_of new.space.vars moved clock) place turn

@@ -140,3 +140,101 @@ fn a_restart_leaves_zeros_and_free_rows(rt: HostRuntime) -> Result<(), Fail> {
     assert_eq!(rt; heap.new_array(1), Ok(2));
     Ok(())
 }
+
+// Gives a list these bytes; a row without a list counts as one that the pool doesn't hold.
+fn set_list(rt: &impl Abort, heap: &mut Heap, row: u16, bytes: &[u8]) -> Result<(), PoolPassed> {
+    match heap.stride(row) {
+        None => Err(PoolPassed(0)),
+        Some(stride) => {
+            assert!(rt; stride > 0);
+            assert!(rt; bytes.len() < 65536);
+            assert!(rt; bytes.len() % usize::from(stride) == 0);
+            heap.set_list(row, bytes)
+        }
+    }
+}
+
+// Gives a list of single bytes these and a zero behind them.
+fn set_text(rt: &impl Abort, heap: &mut Heap, row: u16, bytes: &[u8]) -> Result<(), PoolPassed> {
+    match heap.stride(row) {
+        None => Err(PoolPassed(0)),
+        Some(stride) => {
+            assert!(rt; stride == 1);
+            assert!(rt; bytes.len() < 65536);
+            heap.set_text(row, bytes)
+        }
+    }
+}
+
+// Gives a list the bytes of another one.
+fn copy_list(rt: &impl Abort, heap: &mut Heap, to: u16, from: u16) -> Result<(), PoolPassed> {
+    match (heap.stride(to), heap.stride(from)) {
+        (Some(stride), Some(_)) => {
+            assert!(rt; stride > 0);
+            assert!(rt; heap.bytes_of(from).len() % usize::from(stride) == 0);
+            heap.copy_list(to, from)
+        }
+        _ => Err(PoolPassed(0)),
+    }
+}
+
+fn expect_bytes(rt: &impl Abort, heap: &Heap, row: u16, bytes: &[u8]) {
+    match heap.stride(row) {
+        None => assert!(rt; false),
+        Some(_) => assert_eq!(rt; heap.bytes_of(row), bytes, "row {row}"),
+    }
+}
+
+#[test]
+fn lists_are_set_and_copied(rt: HostRuntime) -> Result<(), Fail> {
+    let mut heap = Heap::new(rt.alloc(), 6, 4)?;
+    assert_eq!(rt; heap.new_array(1), Ok(1));
+    assert_eq!(rt; heap.new_array(2), Ok(2));
+    assert_eq!(rt; heap.new_array(1), Ok(3));
+    assert_eq!(rt; set_list(&rt, &mut heap, 1, &[1, 2, 3, 4, 5]), Ok(()));
+    assert_eq!(rt; set_list(&rt, &mut heap, 2, &[6, 0, 7, 0]), Ok(()));
+    assert_eq!(rt; copy_list(&rt, &mut heap, 3, 1), Ok(()));
+    assert_eq!(rt; heap.footprint(), 48 + 8 + 4 + 8);
+    assert_eq!(rt; set_list(&rt, &mut heap, 1, &[9]), Ok(()));
+    expect_bytes(&rt, &heap, 1, &[9]);
+    expect_bytes(&rt, &heap, 2, &[6, 0, 7, 0]);
+    expect_bytes(&rt, &heap, 3, &[1, 2, 3, 4, 5]);
+    assert_eq!(rt; copy_list(&rt, &mut heap, 2, 2), Ok(()));
+    expect_bytes(&rt, &heap, 2, &[6, 0, 7, 0]);
+    assert_eq!(rt; set_text(&rt, &mut heap, 3, &[65, 66]), Ok(()));
+    expect_bytes(&rt, &heap, 3, &[65, 66, 0]);
+    assert_eq!(rt; set_text(&rt, &mut heap, 3, &[]), Ok(()));
+    expect_bytes(&rt, &heap, 3, &[0]);
+    assert_eq!(rt; copy_list(&rt, &mut heap, 3, 1), Ok(()));
+    expect_bytes(&rt, &heap, 3, &[9]);
+    assert_eq!(rt; heap.footprint(), 48 + 4 + 4 + 4);
+    Ok(())
+}
+
+#[test]
+fn a_refused_list_stays_as_it_was(rt: HostRuntime) -> Result<(), Fail> {
+    let mut heap = Heap::new(rt.alloc(), 6, 4)?;
+    assert_eq!(rt; heap.new_array(1), Ok(1));
+    assert_eq!(rt; heap.new_array(2), Ok(2));
+    assert_eq!(rt; heap.new_array(1), Ok(3));
+    assert_eq!(rt; set_list(&rt, &mut heap, 2, &[6, 0, 7, 0]), Ok(()));
+    assert_eq!(rt; set_list(&rt, &mut heap, 3, &[1, 2, 3]), Ok(()));
+    assert_eq!(rt; resize(&rt, &mut heap, 1, 32712), Ok(()));
+    assert_eq!(rt; heap.footprint(), 32768);
+    assert_eq!(rt; resize(&rt, &mut heap, 1, 32712), Ok(()));
+    assert_eq!(rt;
+        set_list(&rt, &mut heap, 2, &[0; 6]),
+        Err(PoolPassed(32772))
+    );
+    assert_eq!(rt;
+        set_text(&rt, &mut heap, 3, &[1, 2, 3, 4]),
+        Err(PoolPassed(32772))
+    );
+    assert_eq!(rt; copy_list(&rt, &mut heap, 3, 1), Err(PoolPassed(65476)));
+    expect_bytes(&rt, &heap, 2, &[6, 0, 7, 0]);
+    expect_bytes(&rt, &heap, 3, &[1, 2, 3]);
+    assert_eq!(rt; set_text(&rt, &mut heap, 3, &[1, 2, 3]), Ok(()));
+    expect_bytes(&rt, &heap, 3, &[1, 2, 3, 0]);
+    assert_eq!(rt; heap.footprint(), 32768);
+    Ok(())
+}

@@ -9,6 +9,7 @@ mod calls;
 mod counting;
 mod lists;
 mod pool;
+mod spots;
 
 use calls::{gather, length, set, store};
 use nxt_images::{EMPTY, Image, NO_DEFAULT, SBYTE, SLONG, SWORD, UBYTE, ULONG, UWORD, layout_of};
@@ -23,7 +24,7 @@ use std::test::Fail;
 // The variables of a program at their start.
 fn started(alloc: Global, layout: &Layout) -> Result<Space, NoMemory>
     requires { (p : Parts) × IsLayout p layout.now }
-    ensures { IfOk result (λ space. space.shapes ≡ layout.now.shapes) }
+    ensures { IfOk result (λ space. space.vars.shapes ≡ layout.now.shapes) }
 {
     let space = Space::new(alloc, layout)?;
     Ok(space)
@@ -62,7 +63,7 @@ fn expect_part(
     space: &Space,
     part: &Part,
 ) -> Result<(), Fail>
-    requires { toc.now.shapes ≡ space.now.shapes }
+    requires { toc.now.shapes ≡ space.now.vars.shapes }
 {
     let (var, steps, flat, count) = part;
     let path = Path {
@@ -83,7 +84,7 @@ fn expect(
     space: &Space,
     state: &State,
 ) -> Result<(), Fail>
-    requires { toc.now.shapes ≡ space.now.shapes }
+    requires { toc.now.shapes ≡ space.now.vars.shapes }
 {
     for part in state.parts {
         expect_part(rt, alloc, toc, space, part)?;
@@ -100,8 +101,8 @@ fn take(
     space: &mut Space,
     step: &Step,
 ) -> Result<(), Fail>
-    requires { toc.now.shapes ≡ space.old.shapes }
-    ensures { space.new.shapes ≡ space.old.shapes }
+    requires { toc.now.shapes ≡ space.old.vars.shapes }
+    ensures { space.new.vars.shapes ≡ space.old.vars.shapes }
 {
     let flat = flat_of(alloc, step.flat)?;
     let answer = store(rt, toc, space, step.at, &flat);
@@ -118,7 +119,7 @@ fn take_all(
     start: &State,
     steps: &[Step],
 ) -> Result<(), Fail>
-    requires { toc.now.shapes ≡ space.old.shapes }
+    requires { toc.now.shapes ≡ space.old.vars.shapes }
 {
     expect(rt, alloc, toc, space, start)?;
     for step in steps {
@@ -191,7 +192,7 @@ fn expect_numbers(rt: &impl Abort, space: &Space, numbers: &[i64; 6]) {
 
 // All other numbers stay.
 fn check_cuts(rt: &impl Abort, toc: &Toc, space: &mut Space, cuts: &[(u16, i64, i64)])
-    requires { toc.now.shapes ≡ space.old.shapes }
+    requires { toc.now.shapes ≡ space.old.vars.shapes }
 {
     let mut left = [0; 6];
     for (i, x, cut) in cuts {

@@ -124,9 +124,9 @@ fn has_number(toc: &Toc, i: u16) -> bool
 
 // Stores a number.
 fn set(rt: &impl Abort, toc: &Toc, space: &mut Space, i: u16, x: i64)
-    requires shapes { toc.now.shapes ≡ space.old.shapes }
-    ensures entries { space.new.entries ≡ space.old.entries }
-    ensures shapes { space.new.shapes ≡ space.old.shapes }
+    requires shapes { toc.now.shapes ≡ space.old.vars.shapes }
+    ensures entries { space.new.vars.entries ≡ space.old.vars.entries }
+    ensures shapes { space.new.vars.shapes ≡ space.old.vars.shapes }
 {
     let number = has_number(toc, i);
     assert!(rt; number);
@@ -134,9 +134,9 @@ fn set(rt: &impl Abort, toc: &Toc, space: &mut Space, i: u16, x: i64)
 }
 
 fn set_all(rt: &impl Abort, toc: &Toc, space: &mut Space, before: &[(u16, i64)])
-    requires shapes { toc.now.shapes ≡ space.old.shapes }
-    ensures entries { space.new.entries ≡ space.old.entries }
-    ensures shapes { space.new.shapes ≡ space.old.shapes }
+    requires shapes { toc.now.shapes ≡ space.old.vars.shapes }
+    ensures entries { space.new.vars.entries ≡ space.old.vars.entries }
+    ensures shapes { space.new.vars.shapes ≡ space.old.vars.shapes }
 {
     for (i, x) in before {
         set(rt, toc, space, *i, *x);
@@ -152,7 +152,7 @@ fn expect(
     flat: &[i64],
     steps: &[Step],
 ) -> Result<(), Fail>
-    requires { toc.now.shapes ≡ space.now.shapes }
+    requires { toc.now.shapes ≡ space.now.vars.shapes }
 {
     let named = toc.shape(i).is_some();
     assert!(rt; named);
@@ -171,7 +171,7 @@ fn expect_all(
     after: &[(u16, &[i64])],
     steps: &[Step],
 ) -> Result<(), Fail>
-    requires { toc.now.shapes ≡ space.now.shapes }
+    requires { toc.now.shapes ≡ space.now.vars.shapes }
 {
     for (i, flat) in after {
         expect(rt, alloc, toc, space, *i, flat, steps)?;
@@ -182,12 +182,12 @@ fn expect_all(
 // Runs a statement. Others than those of `run_op` and `run_array` want memory.
 fn run(alloc: Global, i: &Instr, words: &[u16], toc: &Toc, space: &mut Space) -> Answer
     requires whole { IsWhole words.now i.now }
-    requires entries { toc.now.entries ≡ space.old.entries }
-    requires shapes { toc.now.shapes ≡ space.old.shapes }
-    requires sound { AreSound space.old }
-    requires fit { AreFit space.old.shapes (statement_of i.now words.now) }
-    ensures entries { space.new.entries ≡ space.old.entries }
-    ensures shapes { space.new.shapes ≡ space.old.shapes }
+    requires entries { toc.now.entries ≡ space.old.vars.entries }
+    requires shapes { toc.now.shapes ≡ space.old.vars.shapes }
+    requires sound { AreSound space.old.vars }
+    requires fit { AreFit space.old.vars.shapes (statement_of i.now words.now) }
+    ensures entries { space.new.vars.entries ≡ space.old.vars.entries }
+    ensures shapes { space.new.vars.shapes ≡ space.old.vars.shapes }
 {
     if nxt_ops::runs(i.op) {
         return run_op(alloc, i, toc, space);
@@ -209,10 +209,10 @@ fn take(
     space: &mut Space,
     step: &Step,
 ) -> Result<(), Fail>
-    requires entries { toc.now.entries ≡ space.old.entries }
-    requires shapes { toc.now.shapes ≡ space.old.shapes }
-    ensures entries { space.new.entries ≡ space.old.entries }
-    ensures shapes { space.new.shapes ≡ space.old.shapes }
+    requires entries { toc.now.entries ≡ space.old.vars.entries }
+    requires shapes { toc.now.shapes ≡ space.old.vars.shapes }
+    ensures entries { space.new.vars.entries ≡ space.old.vars.entries }
+    ensures shapes { space.new.vars.shapes ≡ space.old.vars.shapes }
 {
     let (statement, wanted) = step;
     space.is_sound();
@@ -237,9 +237,9 @@ fn take_all(
     space: &mut Space,
     steps: &[Step],
 ) -> Result<(), Fail>
-    requires entries { toc.now.entries ≡ space.old.entries }
-    requires shapes { toc.now.shapes ≡ space.old.shapes }
-    ensures shapes { space.new.shapes ≡ space.old.shapes }
+    requires entries { toc.now.entries ≡ space.old.vars.entries }
+    requires shapes { toc.now.shapes ≡ space.old.vars.shapes }
+    ensures shapes { space.new.vars.shapes ≡ space.old.vars.shapes }
 {
     for step in steps {
         take(rt, alloc, toc, space, step)?;

@@ -12,5 +12,7 @@ pub mod Tables
 pub mod Trees
 -- Sizes in the pool.
 pub mod Pool
+-- Numbers that stand in bytes.
+pub mod Bytes
 -- Numbers cut to their kind.
 pub mod Kinds

@@ -1,5 +1,6 @@
 pub mod Pool
 pub mod Words
+pub mod Bytes
 pub mod Refusals
 pub mod BrokenRules
 pub mod Arithmetic

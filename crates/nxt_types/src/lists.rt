@@ -1,6 +1,6 @@
 // Lists that contracts see as lists.
 
-ghost use Rattle.std.specs.Prelude.{◌≡◌, ◌↔◌, [], ◌∷◌, ◌++◌, length, OnOk, OnErr, IsTrue};
+ghost use Rattle.std.specs.Prelude.{◌≡◌, ◌↔◌, [], ◌∷◌, ◌++◌, length, take, OnOk, OnErr, IsTrue};
 
 use crate::memory::NoMemory;
 use crate::shape::TocEntry;
@@ -69,6 +69,13 @@ impl<T: Drop> ListOf<T> {
     {
         self.items.push(item)?;
         Ok(())
+    }
+
+    /// Keeps the first n items.
+    pub fn truncate(&mut self, n: usize)
+        ensures { self.new ≡ take n self.old }
+    {
+        self.items.truncate(n);
     }
 
     pub fn clear(&mut self)

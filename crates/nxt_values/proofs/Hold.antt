@@ -1,4 +1,4 @@
 -- How the lists of a heap hold values.
 
--- What a value depends on: the bytes in its spots and the lists of its rows.
+-- What a value depends on: the bytes in its spans and the lists of its rows.
 pub mod Frames

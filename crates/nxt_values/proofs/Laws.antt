@@ -30,3 +30,7 @@ pub mod StoredPart
 pub mod HeldRows
 -- Elements that are filled one after another.
 pub mod FilledElements
+-- A number whose bytes are stored.
+pub mod Numbers
+-- A list of numbers that keeps its row and gets other bytes.
+pub mod RowKept

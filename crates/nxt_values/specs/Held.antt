@@ -3,12 +3,13 @@ use Rattle.std.specs.Prelude.{◌≡◌, ◌≢◌, ℕ, ◌+◌, ◌*◌, ◌/�
 use Rattle.std.specs.List.{AllByRecursion, list_any}
 use Rattle.std.specs.Prelude.{◌==◌, true}
 use Rattle.nxt_types.specs.Arithmetic.{leaf_size}
+use Rattle.nxt_types.specs.Bytes.{u16_at}
 use Rattle.nxt_types.specs.Names.{size}
 use Rattle.nxt_types.specs.Shapes.{Shape, Void, Number, Array, Cluster, Mutex, Members, no_members, member, SpellsAll}
 use Rattle.nxt_types.specs.declared.shape.TocEntry.{TocEntry}
 use Rattle.nxt_model.specs.Values.{Value, Num, list_of, group_of}
 use Rattle.nxt_model.specs.Means.Text.{number_in}
-use Rattle.nxt_model.specs.Reading.{desc_of, u16_in}
+use Rattle.nxt_model.specs.Reading.{desc_of}
 use Rattle.nxt_facts.specs.Places.{places_from}
 use Rattle.nxt_heap.specs.Lists.{Lists, list_at, bytes_at, IsAlive}
 
@@ -18,7 +19,7 @@ leaf_place table i base = base + desc_of (slice_get table i)
 
 -- the row that an array's leaf names
 abbrev pub row_in : List TocEntry → ℕ → List ℕ → ℕ → ℕ
-row_in table i bytes base = u16_in bytes (leaf_place table i base)
+row_in table i bytes base = u16_at bytes (leaf_place table i base)
 
 -- where the elements of a list begin among its bytes
 abbrev pub element_starts : ℕ → List ℕ → List ℕ

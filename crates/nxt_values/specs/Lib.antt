@@ -1,6 +1,6 @@
 pub mod Elements
 pub mod Held
-pub mod Homes
+pub mod Regions
 pub mod Writes
 pub mod Fills
 pub mod Sizes

@@ -5,7 +5,7 @@ use Rattle.nxt_types.specs.declared.shape.TocEntry.{TocEntry}
 use Rattle.nxt_model.specs.Values.{Value, Values, values, items, lists_in, lists_among}
 use Rattle.nxt_model.specs.Footprint.{list_bytes, member_bytes}
 use Rattle.nxt_heap.specs.Lists.{Lists}
-use Rattle.nxt_values.specs.Homes.{value_there, values_there}
+use Rattle.nxt_values.specs.Regions.{value_there, values_there}
 use Rattle.nxt_values.specs.Fills.{filled, all_filled}
 use Rattle.nxt_values.specs.declared.reading.Place.{Place}
 use Rattle.nxt_values.specs.declared.sizing.Size.{Size}

@@ -4,10 +4,10 @@ ghost use Rattle.std.specs.Prelude.{◌≡◌, ◌<◌, ◌≤◌, ◌+◌, ◌*
 ghost use Rattle.nxt_types.specs.Pool.{pool_size};
 ghost use Rattle.nxt_heap.specs.Lists.{footprint, IsAlive};
 ghost use Rattle.nxt_values.specs.Held.{leaf_place as place_of, row_in};
-ghost use Rattle.nxt_values.specs.Homes.{bytes_in, IsHome};
+ghost use Rattle.nxt_values.specs.Regions.{bytes_in, IsRegion};
 ghost use Rattle.nxt_values.specs.Elements.{AreElements, element_place};
 
-use crate::reading::{Home, Place, leaf_place, row_at};
+use crate::reading::{Place, Region, leaf_place, row_at};
 use nxt_heap::Heap;
 use nxt_types::shape::TocEntry;
 
@@ -29,7 +29,7 @@ impl Elements {
         ensures { result ≡ element_place self k }
     {
         Place {
-            home: Home::Row(self.row),
+            region: Region::Row(self.row),
             entry: self.entry,
             base: k * self.stride,
         }
@@ -38,23 +38,27 @@ impl Elements {
 
 /// The row of the list whose leaf stands there.
 pub fn list_row(heap: &Heap, entries: &[TocEntry], list: Place) -> u16
-    requires pool { footprint heap.now ≤ pool_size }
-    requires home { IsHome heap.now list.home }
-    requires within { place_of entries.now list.entry list.base + 2 ≤ length (bytes_in heap.now list.home) }
-    ensures { result ≡ row_in entries.now list.entry (bytes_in heap.now list.home) list.base }
+    requires pool { footprint heap.now.lists ≤ pool_size }
+    requires region { IsRegion heap.now.lists list.region }
+    requires within { place_of entries.now list.entry list.base + 2 ≤ length (bytes_in heap.now.lists list.region) }
+    ensures { result ≡ row_in entries.now list.entry (bytes_in heap.now.lists list.region) list.base }
 {
-    row_at(heap, list.home, leaf_place(entries, list.entry, list.base))
+    row_at(
+        heap,
+        list.region,
+        leaf_place(entries, list.entry, list.base),
+    )
 }
 
 /// The elements of the list whose leaf stands there.
 pub fn elements_at(heap: &Heap, entries: &[TocEntry], stride: u32, list: Place) -> Elements
-    requires pool { footprint heap.now ≤ pool_size }
-    requires home { IsHome heap.now list.home }
+    requires pool { footprint heap.now.lists ≤ pool_size }
+    requires region { IsRegion heap.now.lists list.region }
     requires entries { list.entry + 1 < 2 ^ 16 }
     requires some { 1 ≤ stride }
-    requires within { place_of entries.now list.entry list.base + 2 ≤ length (bytes_in heap.now list.home) }
-    requires alive { IsAlive heap.now (row_in entries.now list.entry (bytes_in heap.now list.home) list.base) }
-    ensures { AreElements entries.now heap.now stride list result }
+    requires within { place_of entries.now list.entry list.base + 2 ≤ length (bytes_in heap.now.lists list.region) }
+    requires alive { IsAlive heap.now.lists (row_in entries.now list.entry (bytes_in heap.now.lists list.region) list.base) }
+    ensures { AreElements entries.now heap.now.lists stride list result }
 {
     let row = list_row(heap, entries, list);
     let count = heap.bytes_of(row).len() as u32 / stride;

@@ -5,5 +5,6 @@
 pub mod elements;
 pub mod parts;
 pub mod reading;
+pub mod shapes;
 pub mod sizing;
 pub mod writing;

@@ -6,7 +6,7 @@ ghost use Rattle.nxt_types.specs.Names.{size};
 ghost use Rattle.nxt_model.specs.Values.{Num, elements, part};
 ghost use Rattle.nxt_types.specs.Pool.{pool_size};
 ghost use Rattle.nxt_heap.specs.Lists.{footprint};
-ghost use Rattle.nxt_values.specs.Homes.{IsHome, HoldsThere, value_there};
+ghost use Rattle.nxt_values.specs.Regions.{IsRegion, HoldsThere, value_there};
 ghost use Rattle.nxt_values.specs.Parts.{positions, AreWithin};
 
 use crate::elements::elements_at;
@@ -22,15 +22,15 @@ pub fn part_at<'s>(
     at: Place,
     steps: &[i64],
 ) -> (&'s Shape, Place)
-    requires pool { footprint heap.now ≤ pool_size }
-    requires home { IsHome heap.now at.home }
+    requires pool { footprint heap.now.lists ≤ pool_size }
+    requires region { IsRegion heap.now.lists at.region }
     requires entries { at.entry + size (tree shape.now) < 2 ^ 16 }
-    requires holds { HoldsThere entries.now heap.now (tree shape.now) at }
-    requires within { AreWithin (tree shape.now) (value_there entries.now heap.now (tree shape.now) at) (positions steps.now) }
-    ensures home { IsHome heap.now result.1.home }
+    requires holds { HoldsThere entries.now heap.now.lists (tree shape.now) at }
+    requires within { AreWithin (tree shape.now) (value_there entries.now heap.now.lists (tree shape.now) at) (positions steps.now) }
+    ensures region { IsRegion heap.now.lists result.1.region }
     ensures entries { result.1.entry + size (tree result.0.now) < 2 ^ 16 }
-    ensures holds { HoldsThere entries.now heap.now (tree result.0.now) result.1 }
-    ensures value { value_there entries.now heap.now (tree result.0.now) result.1 ≡ part (positions steps.now) (value_there entries.now heap.now (tree shape.now) at) }
+    ensures holds { HoldsThere entries.now heap.now.lists (tree result.0.now) result.1 }
+    ensures value { value_there entries.now heap.now.lists (tree result.0.now) result.1 ≡ part (positions steps.now) (value_there entries.now heap.now.lists (tree shape.now) at) }
 {
     let mut shape = shape;
     let mut at = at;
@@ -52,15 +52,15 @@ fn element_at(
     list: Place,
     k: u64,
 ) -> Place
-    requires pool { footprint heap.now ≤ pool_size }
-    requires home { IsHome heap.now list.home }
+    requires pool { footprint heap.now.lists ≤ pool_size }
+    requires region { IsRegion heap.now.lists list.region }
     requires entries { list.entry + size (tree element.now) + 1 < 2 ^ 16 }
-    requires holds { HoldsThere entries.now heap.now (Array stride (tree element.now)) list }
-    requires within { k < length (elements (value_there entries.now heap.now (Array stride (tree element.now)) list)) }
-    ensures home { IsHome heap.now result.home }
+    requires holds { HoldsThere entries.now heap.now.lists (Array stride (tree element.now)) list }
+    requires within { k < length (elements (value_there entries.now heap.now.lists (Array stride (tree element.now)) list)) }
+    ensures region { IsRegion heap.now.lists result.region }
     ensures entry { result.entry ≡ list.entry + 1 }
-    ensures holds { HoldsThere entries.now heap.now (tree element.now) result }
-    ensures value { value_there entries.now heap.now (tree element.now) result ≡ slice_index_or (elements (value_there entries.now heap.now (Array stride (tree element.now)) list)) k (Num (pos 0)) }
+    ensures holds { HoldsThere entries.now heap.now.lists (tree element.now) result }
+    ensures value { value_there entries.now heap.now.lists (tree element.now) result ≡ slice_index_or (elements (value_there entries.now heap.now.lists (Array stride (tree element.now)) list)) k (Num (pos 0)) }
 {
     elements_at(heap, entries, stride, list).place(k as u32)
 }

@@ -1,16 +1,17 @@
 // Values that are read from the heap.
 
-ghost use Rattle.std.specs.Prelude.{◌≡◌, ◌<◌, ◌≤◌, ◌+◌, ◌^◌, ◌++◌, OnOk, length, drop, take, slice_index, slice_get, map};
+ghost use Rattle.std.specs.Prelude.{◌≡◌, ◌<◌, ◌≤◌, ◌+◌, ◌^◌, ◌++◌, OnOk, OnErr, length, drop, take, slice_index, slice_get, map};
 ghost use Rattle.std.specs.Int.{from_le_bytes};
 ghost use Rattle.nxt_types.specs.Arithmetic.{leaf_size as size_of_leaf, width_of};
+ghost use Rattle.nxt_types.specs.Bytes.{u16_at};
 ghost use Rattle.nxt_types.specs.Shapes.{tree, members};
 ghost use Rattle.nxt_types.specs.Names.{size, sizes};
 ghost use Rattle.nxt_model.specs.Values.{values, flat, flats};
 ghost use Rattle.nxt_types.specs.Pool.{pool_size};
 ghost use Rattle.nxt_model.specs.Means.Text.{number_in};
-ghost use Rattle.nxt_model.specs.Reading.{desc_of, u16_in};
+ghost use Rattle.nxt_model.specs.Reading.{desc_of};
 ghost use Rattle.nxt_heap.specs.Lists.{footprint};
-ghost use Rattle.nxt_values.specs.Homes.{bytes_in, IsHome, value_there, values_there, HoldsThere, HoldAllThere};
+ghost use Rattle.nxt_values.specs.Regions.{bytes_in, IsRegion, value_there, values_there, HoldsThere, HoldAllThere};
 ghost use Rattle.nxt_values.specs.Held.{leaf_place as place_of};
 
 use crate::elements::elements_at;
@@ -23,16 +24,16 @@ use nxt_types::shape::{Shape, TocEntry};
 
 /// The bytes that a value stands in: the static bytes, or those of a row's list.
 #[derive(Clone, Copy, PartialEq, Eq, Debug)]
-pub enum Home {
+pub enum Region {
     Static,
     Row(u16),
 }
 
-/// Where a value stands: the number of its first entry, and where the element that it is in begins among its home's
+/// Where a value stands: the number of its first entry, and where the element that it is in begins among its region's
 /// bytes. What is in no element has the base 0.
 #[derive(Clone, Copy, PartialEq, Eq, Debug)]
 pub struct Place {
-    pub home: Home,
+    pub region: Region,
     pub entry: u16,
     pub base: u32,
 }
@@ -54,35 +55,35 @@ impl Place {
     }
 }
 
-/// The bytes of a home.
-pub fn bytes_at_home(heap: &Heap, home: Home) -> &[u8]
-    requires { IsHome heap.now home }
-    ensures { result.now ≡ bytes_in heap.now home }
+/// The bytes of a region.
+pub fn bytes_at_region(heap: &Heap, region: Region) -> &[u8]
+    requires { IsRegion heap.now.lists region }
+    ensures { result.now ≡ bytes_in heap.now.lists region }
 {
-    match home {
-        Home::Static => heap.static_bytes(),
-        Home::Row(row) => heap.bytes_of(row),
+    match region {
+        Region::Static => heap.static_bytes(),
+        Region::Row(row) => heap.bytes_of(row),
     }
 }
 
 /// The number of 16 bits whose low byte is there.
-pub fn row_at(heap: &Heap, home: Home, at: u32) -> u16
-    requires home { IsHome heap.now home }
-    requires within { at + 2 ≤ length (bytes_in heap.now home) }
-    ensures { result ≡ u16_in (bytes_in heap.now home) at }
+pub fn row_at(heap: &Heap, region: Region, at: u32) -> u16
+    requires region { IsRegion heap.now.lists region }
+    requires within { at + 2 ≤ length (bytes_in heap.now.lists region) }
+    ensures { result ≡ u16_at (bytes_in heap.now.lists region) at }
 {
-    let bytes = bytes_at_home(heap, home);
+    let bytes = bytes_at_region(heap, region);
     let at = at as usize;
     u16::from_le_bytes([bytes[at], bytes[at + 1]])
 }
 
 // The bytes of a number as a word.
-fn word_at(heap: &Heap, home: Home, at: u32, kind: Kind) -> u32
-    requires home { IsHome heap.now home }
-    requires within { at + size_of_leaf kind ≤ length (bytes_in heap.now home) }
-    ensures { result ≡ from_le_bytes (width_of kind) (take (size_of_leaf kind) (drop at (bytes_in heap.now home))) }
+fn word_at(heap: &Heap, region: Region, at: u32, kind: Kind) -> u32
+    requires region { IsRegion heap.now.lists region }
+    requires within { at + size_of_leaf kind ≤ length (bytes_in heap.now.lists region) }
+    ensures { result ≡ from_le_bytes (width_of kind) (take (size_of_leaf kind) (drop at (bytes_in heap.now.lists region))) }
 {
-    let bytes = bytes_at_home(heap, home);
+    let bytes = bytes_at_region(heap, region);
     let at = at as usize;
     match kind {
         Kind::Ubyte | Kind::Sbyte => u32::from(bytes[at]),
@@ -94,13 +95,13 @@ fn word_at(heap: &Heap, home: Home, at: u32, kind: Kind) -> u32
 }
 
 /// The number of a kind whose low byte is there.
-pub fn number_at(heap: &Heap, home: Home, at: u32, kind: Kind) -> i64
-    requires pool { footprint heap.now ≤ pool_size }
-    requires home { IsHome heap.now home }
-    requires within { at + size_of_leaf kind ≤ length (bytes_in heap.now home) }
-    ensures { result ≡ number_in kind (drop at (bytes_in heap.now home)) }
+pub fn number_at(heap: &Heap, region: Region, at: u32, kind: Kind) -> i64
+    requires pool { footprint heap.now.lists ≤ pool_size }
+    requires region { IsRegion heap.now.lists region }
+    requires within { at + size_of_leaf kind ≤ length (bytes_in heap.now.lists region) }
+    ensures { result ≡ number_in kind (drop at (bytes_in heap.now.lists region)) }
 {
-    extend(kind, word_at(heap, home, at, kind))
+    extend(kind, word_at(heap, region, at, kind))
 }
 
 /// The `desc` of an entry; 0 where there is no entry.
@@ -146,7 +147,7 @@ fn sizes_of(shapes: &[Shape]) -> u16
     sum
 }
 
-/// Adds the flat form of the value that stands there.
+/// Adds the flat form of the value that stands there. An `Err` may leave numbers behind those that were there.
 #[cycle(gather)]
 pub fn gather(
     heap: &Heap,
@@ -155,17 +156,18 @@ pub fn gather(
     at: Place,
     into: &mut Nums,
 ) -> Result<(), NoMemory>
-    requires pool { footprint heap.now ≤ pool_size }
-    requires home { IsHome heap.now at.home }
+    requires pool { footprint heap.now.lists ≤ pool_size }
+    requires region { IsRegion heap.now.lists at.region }
     requires entries { at.entry + size (tree shape.now) < 2 ^ 16 }
-    requires holds { HoldsThere entries.now heap.now (tree shape.now) at }
-    ensures { OnOk result (into.new ≡ into.old ++ flat (value_there entries.now heap.now (tree shape.now) at)) }
+    requires holds { HoldsThere entries.now heap.now.lists (tree shape.now) at }
+    ensures ok { OnOk result (into.new ≡ into.old ++ flat (value_there entries.now heap.now.lists (tree shape.now) at)) }
+    ensures err { OnErr result (take (length into.old) into.new ≡ into.old) }
 {
     match shape {
         Shape::Void | Shape::Mutex => into.push(0),
         Shape::Num(kind) => {
             let place = leaf_place(entries, at.entry, at.base);
-            into.push(number_at(heap, at.home, place, *kind))
+            into.push(number_at(heap, at.region, place, *kind))
         }
         Shape::List(stride, element) => {
             let elements = elements_at(heap, entries, *stride, at);
@@ -190,11 +192,12 @@ fn gather_members(
     at: Place,
     into: &mut Nums,
 ) -> Result<(), NoMemory>
-    requires pool { footprint heap.now ≤ pool_size }
-    requires home { IsHome heap.now at.home }
+    requires pool { footprint heap.now.lists ≤ pool_size }
+    requires region { IsRegion heap.now.lists at.region }
     requires entries { at.entry + sizes (members (map tree shapes.now)) < 2 ^ 16 }
-    requires holds { HoldAllThere entries.now heap.now (members (map tree shapes.now)) at }
-    ensures { OnOk result (into.new ≡ into.old ++ flats (values (values_there entries.now heap.now (members (map tree shapes.now)) at))) }
+    requires holds { HoldAllThere entries.now heap.now.lists (members (map tree shapes.now)) at }
+    ensures ok { OnOk result (into.new ≡ into.old ++ flats (values (values_there entries.now heap.now.lists (members (map tree shapes.now)) at))) }
+    ensures err { OnErr result (take (length into.old) into.new ≡ into.old) }
 {
     let mut entry = at.entry;
     for shape in shapes {

@@ -5,13 +5,14 @@ ghost use Rattle.nxt_types.specs.Shapes.{tree, members};
 ghost use Rattle.nxt_types.specs.Names.{size, sizes};
 ghost use Rattle.nxt_types.specs.Pool.{pool_size, round4 as rounded};
 ghost use Rattle.nxt_heap.specs.Lists.{footprint};
-ghost use Rattle.nxt_values.specs.Homes.{IsHome, HoldsThere, HoldAllThere};
+ghost use Rattle.nxt_values.specs.Regions.{IsRegion, HoldsThere, HoldAllThere};
 ghost use Rattle.nxt_values.specs.Fills.{filled, all_filled};
 ghost use Rattle.nxt_values.specs.Sizes.{IsCountable, size_of_filled, size_of_all_filled, size_there, sizes_there};
 
 use crate::elements::elements_at;
 use crate::reading::{Place, size_of};
-use crate::writing::{behind, first_count};
+use crate::shapes::is_number;
+use crate::writing::{behind, behind_many, first_count};
 use nxt_heap::Heap;
 use nxt_types::pool::round4;
 use nxt_types::shape::{Shape, TocEntry};
@@ -53,20 +54,23 @@ impl Size {
     }
 }
 
-/// The size of the value that stands there.
+/// The size of the value that stands there. No list stands in an element that is a number.
 #[cycle(held)]
 pub fn held_size(heap: &Heap, entries: &[TocEntry], shape: &Shape, at: Place) -> Size
-    requires pool { footprint heap.now ≤ pool_size }
-    requires home { IsHome heap.now at.home }
+    requires pool { footprint heap.now.lists ≤ pool_size }
+    requires region { IsRegion heap.now.lists at.region }
     requires entries { at.entry + size (tree shape.now) < 2 ^ 16 }
-    requires holds { HoldsThere entries.now heap.now (tree shape.now) at }
-    requires countable { IsCountable (size_there entries.now heap.now (tree shape.now) at) }
-    ensures { result ≡ size_there entries.now heap.now (tree shape.now) at }
+    requires holds { HoldsThere entries.now heap.now.lists (tree shape.now) at }
+    requires countable { IsCountable (size_there entries.now heap.now.lists (tree shape.now) at) }
+    ensures { result ≡ size_there entries.now heap.now.lists (tree shape.now) at }
 {
     match shape {
         Shape::Void | Shape::Mutex | Shape::Num(_) => NONE,
         Shape::List(stride, element) => {
             let elements = elements_at(heap, entries, *stride, at);
+            if is_number(element) {
+                return NONE.in_list(u64::from(elements.count), elements.stride);
+            }
             let mut inner = NONE;
             for k in 0..elements.count {
                 inner = inner.plus(held_size(heap, entries, element, elements.place(k)));
@@ -82,12 +86,12 @@ pub fn held_size(heap: &Heap, entries: &[TocEntry], shape: &Shape, at: Place) ->
 // The size of the values whose first begins there.
 #[cycle(held)]
 fn held_sizes(heap: &Heap, entries: &[TocEntry], shapes: &[Shape], at: Place) -> Size
-    requires pool { footprint heap.now ≤ pool_size }
-    requires home { IsHome heap.now at.home }
+    requires pool { footprint heap.now.lists ≤ pool_size }
+    requires region { IsRegion heap.now.lists at.region }
     requires entries { at.entry + sizes (members (map tree shapes.now)) < 2 ^ 16 }
-    requires holds { HoldAllThere entries.now heap.now (members (map tree shapes.now)) at }
-    requires countable { IsCountable (sizes_there entries.now heap.now (members (map tree shapes.now)) at) }
-    ensures { result ≡ sizes_there entries.now heap.now (members (map tree shapes.now)) at }
+    requires holds { HoldAllThere entries.now heap.now.lists (members (map tree shapes.now)) at }
+    requires countable { IsCountable (sizes_there entries.now heap.now.lists (members (map tree shapes.now)) at) }
+    ensures { result ≡ sizes_there entries.now heap.now.lists (members (map tree shapes.now)) at }
 {
     let mut sum = NONE;
     let mut entry = at.entry;
@@ -98,7 +102,8 @@ fn held_sizes(heap: &Heap, entries: &[TocEntry], shapes: &[Shape], at: Place) ->
     sum
 }
 
-/// The size of the value that the numbers begin with, and the numbers behind it.
+/// The size of the value that the numbers begin with, and the numbers behind it. An element that is a number is one of
+/// them, and no list.
 #[cycle(spelled)]
 pub fn spelled_size<'a>(shape: &Shape, from: &'a [i64]) -> (Size, &'a [i64])
     requires { IsCountable (size_of_filled (tree shape.now) from.now) }
@@ -109,8 +114,11 @@ pub fn spelled_size<'a>(shape: &Shape, from: &'a [i64]) -> (Size, &'a [i64])
         Shape::Void | Shape::Mutex | Shape::Num(_) => (NONE, behind(from)),
         Shape::List(stride, element) => {
             let count = first_count(from);
-            let mut inner = NONE;
             let mut left = behind(from);
+            if is_number(element) {
+                return (NONE.in_list(count, *stride), behind_many(left, count));
+            }
+            let mut inner = NONE;
             for _ in 0..count {
                 let (one, rest) = spelled_size(element, left);
                 inner = inner.plus(one);

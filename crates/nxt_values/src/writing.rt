@@ -8,13 +8,14 @@ ghost use Rattle.nxt_types.specs.Names.{size, sizes};
 ghost use Rattle.nxt_types.specs.Pool.{pool_size, round4 as rounded};
 ghost use Rattle.nxt_heap.specs.Lists.{footprint};
 ghost use Rattle.nxt_values.specs.Held.{leaf_place as place_of};
-ghost use Rattle.nxt_values.specs.Homes.{bytes_in, IsHome, HoldsThere, HoldAllThere};
-ghost use Rattle.nxt_values.specs.Writes.{with_bytes, put, bytes_of_number, without, emptied, rows_there, all_rows_there, AreOwn};
-ghost use Rattle.nxt_values.specs.Fills.{first_of, needs, needs_for, needs_for_all, FillsThere, FillAllThere, RoomThere, RoomForAll};
-ghost use Rattle.nxt_values.specs.Elements.{AreOpened};
+ghost use Rattle.nxt_values.specs.Regions.{bytes_in, IsRegion, HoldsThere, HoldAllThere};
+ghost use Rattle.nxt_values.specs.Writes.{with_bytes, put, bytes_of_number, without, emptied, rows_there, all_rows_there, AreOwn, KeepsRows};
+ghost use Rattle.nxt_values.specs.Fills.{first_of, needs, needs_for, needs_for_all, needs_for_each, FillsThere, FillAllThere, RoomThere, RoomForAll};
+ghost use Rattle.nxt_values.specs.Elements.{AreOpened, HaveRoom, FillsElements, HasRow, row_there, closed};
 
-use crate::elements::{Elements, elements_at};
-use crate::reading::{Home, Place, leaf_place, size_of};
+use crate::elements::{Elements, elements_at, list_row};
+use crate::reading::{Place, Region, leaf_place, size_of};
+use crate::shapes::has_inner_list;
 use nxt_heap::{Heap, PoolPassed};
 use nxt_types::kind::Kind;
 use nxt_types::numbers::wrap;
@@ -32,52 +33,51 @@ impl From<PoolPassed> for Full {
 }
 
 // Stores bytes from a place on.
-fn set_bytes(heap: &mut Heap, home: Home, at: u32, bytes: &[u8])
-    requires home { IsHome heap.old home }
-    requires within { at + length bytes.now ≤ length (bytes_in heap.old home) }
-    ensures { heap.new ≡ with_bytes heap.old home (put bytes.now at (bytes_in heap.old home)) }
+fn set_bytes(heap: &mut Heap, region: Region, at: u32, bytes: &[u8])
+    requires region { IsRegion heap.old.lists region }
+    requires within { at + length bytes.now ≤ length (bytes_in heap.old.lists region) }
+    ensures { heap.new.lists ≡ with_bytes heap.old.lists region (put bytes.now at (bytes_in heap.old.lists region)) }
 {
-    match home {
-        Home::Static => heap.set_static(at, bytes),
-        Home::Row(row) => heap.write(row, at, bytes),
+    match region {
+        Region::Static => heap.set_static(at, bytes),
+        Region::Row(row) => heap.write(row, at, bytes),
     }
 }
 
 /// Stores a row number of 16 bits.
-pub fn set_row(heap: &mut Heap, home: Home, at: u32, row: u16)
-    requires home { IsHome heap.old home }
-    requires within { at + 2 ≤ length (bytes_in heap.old home) }
-    requires small { length (bytes_in heap.old home) < 2 ^ 32 }
-    ensures { heap.new ≡ with_bytes heap.old home (put (to_le_bytes w16 row) at (bytes_in heap.old home)) }
+pub fn set_row(heap: &mut Heap, region: Region, at: u32, row: u16)
+    requires region { IsRegion heap.old.lists region }
+    requires within { at + 2 ≤ length (bytes_in heap.old.lists region) }
+    requires small { length (bytes_in heap.old.lists region) < 2 ^ 32 }
+    ensures { heap.new.lists ≡ with_bytes heap.old.lists region (put (to_le_bytes w16 row) at (bytes_in heap.old.lists region)) }
 {
-    set_bytes(heap, home, at, &row.to_le_bytes());
+    set_bytes(heap, region, at, &row.to_le_bytes());
 }
 
 /// Stores a number, cut to its kind.
-pub fn set_number(heap: &mut Heap, home: Home, at: u32, kind: Kind, x: i64)
-    requires home { IsHome heap.old home }
-    requires within { at + size_of_leaf kind ≤ length (bytes_in heap.old home) }
-    requires small { length (bytes_in heap.old home) < 2 ^ 32 }
-    ensures { heap.new ≡ with_bytes heap.old home (put (bytes_of_number kind x) at (bytes_in heap.old home)) }
+pub fn set_number(heap: &mut Heap, region: Region, at: u32, kind: Kind, x: i64)
+    requires region { IsRegion heap.old.lists region }
+    requires within { at + size_of_leaf kind ≤ length (bytes_in heap.old.lists region) }
+    requires small { length (bytes_in heap.old.lists region) < 2 ^ 32 }
+    ensures { heap.new.lists ≡ with_bytes heap.old.lists region (put (bytes_of_number kind x) at (bytes_in heap.old.lists region)) }
 {
     let bytes = wrap(x).to_le_bytes();
-    let count = match kind {
-        Kind::Ubyte | Kind::Sbyte => 1,
-        Kind::Uword | Kind::Sword => 2,
-        Kind::Ulong | Kind::Slong => 4,
-    };
-    set_bytes(heap, home, at, &bytes[..count]);
+    match kind {
+        Kind::Ubyte | Kind::Sbyte => set_bytes(heap, region, at, &bytes[..1]),
+        Kind::Uword | Kind::Sword => set_bytes(heap, region, at, &bytes[..2]),
+        Kind::Ulong | Kind::Slong => set_bytes(heap, region, at, &bytes),
+    }
 }
 
 /// Frees the lists of the value that stands there, each after those in its elements.
 #[cycle(free)]
 pub fn free_lists(heap: &mut Heap, entries: &[TocEntry], shape: &Shape, at: Place)
-    requires pool { footprint heap.old ≤ pool_size }
-    requires home { IsHome heap.old at.home }
+    requires pool { footprint heap.old.lists ≤ pool_size }
+    requires region { IsRegion heap.old.lists at.region }
     requires entries { at.entry + size (tree shape.now) < 2 ^ 16 }
-    requires holds { HoldsThere entries.now heap.old (tree shape.now) at }
-    requires own { AreOwn at.home (rows_there entries.now heap.old (tree shape.now) at) }
-    ensures { heap.new ≡ without heap.old (rows_there entries.now heap.old (tree shape.now) at) }
+    requires holds { HoldsThere entries.now heap.old.lists (tree shape.now) at }
+    requires own { AreOwn at.region (rows_there entries.now heap.old.lists (tree shape.now) at) }
+    ensures { heap.new.lists ≡ without heap.old.lists (rows_there entries.now heap.old.lists (tree shape.now) at) }
 {
     match shape {
         Shape::Void | Shape::Mutex | Shape::Num(_) => {}
@@ -97,12 +97,12 @@ pub fn free_lists(heap: &mut Heap, entries: &[TocEntry], shape: &Shape, at: Plac
 // Frees the lists of the values whose first begins there.
 #[cycle(free)]
 fn free_members(heap: &mut Heap, entries: &[TocEntry], shapes: &[Shape], at: Place)
-    requires pool { footprint heap.old ≤ pool_size }
-    requires home { IsHome heap.old at.home }
+    requires pool { footprint heap.old.lists ≤ pool_size }
+    requires region { IsRegion heap.old.lists at.region }
     requires entries { at.entry + sizes (members (map tree shapes.now)) < 2 ^ 16 }
-    requires holds { HoldAllThere entries.now heap.old (members (map tree shapes.now)) at }
-    requires own { AreOwn at.home (all_rows_there entries.now heap.old (members (map tree shapes.now)) at) }
-    ensures { heap.new ≡ without heap.old (all_rows_there entries.now heap.old (members (map tree shapes.now)) at) }
+    requires holds { HoldAllThere entries.now heap.old.lists (members (map tree shapes.now)) at }
+    requires own { AreOwn at.region (all_rows_there entries.now heap.old.lists (members (map tree shapes.now)) at) }
+    ensures { heap.new.lists ≡ without heap.old.lists (all_rows_there entries.now heap.old.lists (members (map tree shapes.now)) at) }
 {
     let mut entry = at.entry;
     for shape in shapes {
@@ -129,13 +129,13 @@ pub fn first_count(from: &[i64]) -> u64
 }
 
 // Stores the first of the numbers, cut to a kind.
-fn set_first(heap: &mut Heap, home: Home, at: u32, kind: Kind, from: &[i64])
-    requires home { IsHome heap.old home }
-    requires within { at + size_of_leaf kind ≤ length (bytes_in heap.old home) }
-    requires small { length (bytes_in heap.old home) < 2 ^ 32 }
-    ensures { heap.new ≡ with_bytes heap.old home (put (bytes_of_number kind (first_of from.now)) at (bytes_in heap.old home)) }
+fn set_first(heap: &mut Heap, region: Region, at: u32, kind: Kind, from: &[i64])
+    requires region { IsRegion heap.old.lists region }
+    requires within { at + size_of_leaf kind ≤ length (bytes_in heap.old.lists region) }
+    requires small { length (bytes_in heap.old.lists region) < 2 ^ 32 }
+    ensures { heap.new.lists ≡ with_bytes heap.old.lists region (put (bytes_of_number kind (first_of from.now)) at (bytes_in heap.old.lists region)) }
 {
-    set_number(heap, home, at, kind, first_number(from));
+    set_number(heap, region, at, kind, first_number(from));
 }
 
 /// The numbers behind the first.
@@ -143,6 +143,17 @@ pub fn behind(from: &[i64]) -> &[i64]
     ensures { result.now ≡ drop 1 from.now }
 {
     if from.is_empty() { from } else { &from[1..] }
+}
+
+/// The numbers behind so many.
+pub fn behind_many(from: &[i64], count: u64) -> &[i64]
+    ensures { result.now ≡ drop count from.now }
+{
+    if count < from.len() as u64 {
+        &from[count as usize..]
+    } else {
+        &from[from.len()..]
+    }
 }
 
 // Takes a row for a list of so many zero elements, and stores its number in the leaf that stands there.
@@ -153,15 +164,15 @@ fn open_list(
     stride: u32,
     count: u64,
 ) -> Result<Elements, Full>
-    requires home { IsHome heap.old list.home }
+    requires region { IsRegion heap.old.lists list.region }
     requires entries { list.entry + 1 < 2 ^ 16 }
-    requires within { place_of entries.now list.entry list.base + 2 ≤ length (bytes_in heap.old list.home) }
-    requires small { length (bytes_in heap.old list.home) < 2 ^ 32 }
+    requires within { place_of entries.now list.entry list.base + 2 ≤ length (bytes_in heap.old.lists list.region) }
+    requires small { length (bytes_in heap.old.lists list.region) < 2 ^ 32 }
     requires some { 1 ≤ stride }
     requires low { stride < 2 ^ 16 }
-    ensures pool { OnOk result (footprint heap.new ≤ pool_size) }
-    ensures passed { OnErr result (pool_size < needs heap.old 1 (rounded (count * stride))) }
-    ensures opened { IfOk result (λ elements. AreOpened entries.now heap.old heap.new list stride count elements) }
+    ensures pool { OnOk result (footprint heap.new.lists ≤ pool_size) }
+    ensures passed { OnErr result (pool_size < needs heap.old.lists 1 (rounded (count * stride))) }
+    ensures opened { IfOk result (λ elements. AreOpened entries.now heap.old.lists heap.new.lists list stride count elements) }
 {
     if count > POOL_BYTES {
         return Err(Full);
@@ -170,7 +181,43 @@ fn open_list(
     let row = heap.new_array(stride as u16)?;
     heap.resize(row, count * stride)?;
     let place = leaf_place(entries, list.entry, list.base);
-    set_row(heap, list.home, place, row);
+    set_row(heap, list.region, place, row);
+    Ok(Elements {
+        row,
+        count,
+        stride,
+        entry: list.entry + 1,
+    })
+}
+
+// Gives the list whose leaf stands there so many elements. It keeps its row.
+fn reopen_list(
+    heap: &mut Heap,
+    entries: &[TocEntry],
+    list: Place,
+    stride: u32,
+    count: u64,
+) -> Result<Elements, Full>
+    requires pool { footprint heap.old.lists ≤ pool_size }
+    requires region { IsRegion heap.old.lists list.region }
+    requires entries { list.entry + 1 < 2 ^ 16 }
+    requires within { place_of entries.now list.entry list.base + 2 ≤ length (bytes_in heap.old.lists list.region) }
+    requires has { HasRow entries.now heap.old.lists stride list }
+    requires some { 1 ≤ stride }
+    requires low { stride < 2 ^ 16 }
+    ensures pool { OnOk result (footprint heap.new.lists ≤ pool_size) }
+    ensures passed { OnErr result (pool_size < needs (closed entries.now heap.old.lists list) 1 (rounded (count * stride))) }
+    ensures opened { IfOk result (λ elements. AreOpened entries.now (closed entries.now heap.old.lists list) heap.new.lists list stride count elements) }
+    ensures row { IfOk result (λ elements. elements.row ≡ row_there entries.now heap.old.lists list) }
+{
+    if count > POOL_BYTES {
+        return Err(Full);
+    }
+    heap.is_sound();
+    let count = count as u32;
+    let bytes = count * stride;
+    let row = list_row(heap, entries, list);
+    heap.resize(row, bytes)?;
     Ok(Elements {
         row,
         count,
@@ -189,33 +236,53 @@ pub fn fill<'a>(
     at: Place,
     from: &'a [i64],
 ) -> Result<&'a [i64], Full>
-    requires pool { footprint heap.old ≤ pool_size }
-    requires home { IsHome heap.old at.home }
+    requires pool { footprint heap.old.lists ≤ pool_size }
+    requires region { IsRegion heap.old.lists at.region }
     requires entries { at.entry + size (tree shape.now) < 2 ^ 16 }
-    requires room { RoomThere entries.now heap.old (tree shape.now) at }
-    ensures pool { OnOk result (footprint heap.new ≤ pool_size) }
-    ensures passed { OnErr result (pool_size < needs_for heap.old (tree shape.now) from.now) }
-    ensures filled { IfOk result (λ rest. FillsThere entries.now heap.old heap.new (tree shape.now) at from.now rest.now) }
+    requires room { RoomThere entries.now heap.old.lists (tree shape.now) at }
+    ensures pool { OnOk result (footprint heap.new.lists ≤ pool_size) }
+    ensures passed { OnErr result (pool_size < needs_for heap.old.lists (tree shape.now) from.now) }
+    ensures filled { IfOk result (λ rest. FillsThere entries.now heap.old.lists heap.new.lists (tree shape.now) at from.now rest.now) }
 {
     match shape {
         Shape::Void | Shape::Mutex => Ok(behind(from)),
         Shape::Num(kind) => {
             let place = leaf_place(entries, at.entry, at.base);
-            set_first(heap, at.home, place, *kind, from);
+            set_first(heap, at.region, place, *kind, from);
             Ok(behind(from))
         }
         Shape::List(stride, element) => {
             let elements = open_list(heap, entries, at, *stride, first_count(from))?;
-            let mut left = behind(from);
-            for k in 0..elements.count {
-                left = fill(heap, entries, element, elements.place(k), left)?;
-            }
-            Ok(left)
+            fill_elements(heap, entries, element, elements, behind(from))
         }
         Shape::Group(members) => {
             fill_members(heap, entries, members.items.as_slice(), at.inside(), from)
         }
     }
+}
+
+// Fills the elements of a list one after another, and gives the numbers behind them.
+#[cycle(fill)]
+fn fill_elements<'a>(
+    heap: &mut Heap,
+    entries: &[TocEntry],
+    element: &Shape,
+    elements: Elements,
+    from: &'a [i64],
+) -> Result<&'a [i64], Full>
+    requires pool { footprint heap.old.lists ≤ pool_size }
+    requires entries { elements.entry + size (tree element.now) < 2 ^ 16 }
+    requires small { elements.count * elements.stride < 2 ^ 32 }
+    requires room { HaveRoom entries.now heap.old.lists (tree element.now) elements }
+    ensures pool { OnOk result (footprint heap.new.lists ≤ pool_size) }
+    ensures passed { OnErr result (pool_size < needs_for_each heap.old.lists (tree element.now) elements.count from.now) }
+    ensures filled { IfOk result (λ rest. FillsElements entries.now heap.old.lists heap.new.lists (tree element.now) elements from.now rest.now) }
+{
+    let mut left = from;
+    for k in 0..elements.count {
+        left = fill(heap, entries, element, elements.place(k), left)?;
+    }
+    Ok(left)
 }
 
 /// Fills places one behind another, of which the first begins there.
@@ -227,13 +294,13 @@ pub fn fill_members<'a>(
     at: Place,
     from: &'a [i64],
 ) -> Result<&'a [i64], Full>
-    requires pool { footprint heap.old ≤ pool_size }
-    requires home { IsHome heap.old at.home }
+    requires pool { footprint heap.old.lists ≤ pool_size }
+    requires region { IsRegion heap.old.lists at.region }
     requires entries { at.entry + sizes (members (map tree shapes.now)) < 2 ^ 16 }
-    requires room { RoomForAll entries.now heap.old (members (map tree shapes.now)) at }
-    ensures pool { OnOk result (footprint heap.new ≤ pool_size) }
-    ensures passed { OnErr result (pool_size < needs_for_all heap.old (members (map tree shapes.now)) from.now) }
-    ensures filled { IfOk result (λ rest. FillAllThere entries.now heap.old heap.new (members (map tree shapes.now)) at from.now rest.now) }
+    requires room { RoomForAll entries.now heap.old.lists (members (map tree shapes.now)) at }
+    ensures pool { OnOk result (footprint heap.new.lists ≤ pool_size) }
+    ensures passed { OnErr result (pool_size < needs_for_all heap.old.lists (members (map tree shapes.now)) from.now) }
+    ensures filled { IfOk result (λ rest. FillAllThere entries.now heap.old.lists heap.new.lists (members (map tree shapes.now)) at from.now rest.now) }
 {
     let mut left = from;
     let mut entry = at.entry;
@@ -244,8 +311,31 @@ pub fn fill_members<'a>(
     Ok(left)
 }
 
-/// Stores the value that the numbers begin with in the place of another one, whose lists are freed first, and gives the
-/// numbers behind it.
+// Frees the lists of the value that stands there, and then fills the place with the value that the numbers begin with, whose
+// lists may need what those took.
+fn store_anew<'a>(
+    heap: &mut Heap,
+    entries: &[TocEntry],
+    shape: &Shape,
+    at: Place,
+    from: &'a [i64],
+) -> Result<&'a [i64], Full>
+    requires pool { footprint heap.old.lists ≤ pool_size }
+    requires region { IsRegion heap.old.lists at.region }
+    requires entries { at.entry + size (tree shape.now) < 2 ^ 16 }
+    requires holds { HoldsThere entries.now heap.old.lists (tree shape.now) at }
+    requires own { AreOwn at.region (rows_there entries.now heap.old.lists (tree shape.now) at) }
+    requires room { RoomThere entries.now heap.old.lists (tree shape.now) at }
+    ensures pool { OnOk result (footprint heap.new.lists ≤ pool_size) }
+    ensures passed { OnErr result (pool_size < needs_for (emptied entries.now heap.old.lists (tree shape.now) at) (tree shape.now) from.now) }
+    ensures filled { IfOk result (λ rest. FillsThere entries.now (emptied entries.now heap.old.lists (tree shape.now) at) heap.new.lists (tree shape.now) at from.now rest.now) }
+{
+    free_lists(heap, entries, shape, at);
+    fill(heap, entries, shape, at, from)
+}
+
+/// Stores the value that the numbers begin with in the place of another one, and gives the numbers behind it. A list whose
+/// elements have no lists keeps its row. Else the lists of the value that stood there are freed first.
 pub fn store<'a>(
     heap: &mut Heap,
     entries: &[TocEntry],
@@ -253,16 +343,25 @@ pub fn store<'a>(
     at: Place,
     from: &'a [i64],
 ) -> Result<&'a [i64], Full>
-    requires pool { footprint heap.old ≤ pool_size }
-    requires home { IsHome heap.old at.home }
+    requires pool { footprint heap.old.lists ≤ pool_size }
+    requires region { IsRegion heap.old.lists at.region }
     requires entries { at.entry + size (tree shape.now) < 2 ^ 16 }
-    requires holds { HoldsThere entries.now heap.old (tree shape.now) at }
-    requires own { AreOwn at.home (rows_there entries.now heap.old (tree shape.now) at) }
-    requires room { RoomThere entries.now heap.old (tree shape.now) at }
-    ensures pool { OnOk result (footprint heap.new ≤ pool_size) }
-    ensures passed { OnErr result (pool_size < needs_for (emptied entries.now heap.old (tree shape.now) at) (tree shape.now) from.now) }
-    ensures filled { IfOk result (λ rest. FillsThere entries.now (emptied entries.now heap.old (tree shape.now) at) heap.new (tree shape.now) at from.now rest.now) }
+    requires holds { HoldsThere entries.now heap.old.lists (tree shape.now) at }
+    requires own { AreOwn at.region (rows_there entries.now heap.old.lists (tree shape.now) at) }
+    requires room { RoomThere entries.now heap.old.lists (tree shape.now) at }
+    ensures pool { OnOk result (footprint heap.new.lists ≤ pool_size) }
+    ensures passed { OnErr result (pool_size < needs_for (emptied entries.now heap.old.lists (tree shape.now) at) (tree shape.now) from.now) }
+    ensures filled { IfOk result (λ rest. FillsThere entries.now (emptied entries.now heap.old.lists (tree shape.now) at) heap.new.lists (tree shape.now) at from.now rest.now) }
+    ensures rows { OnOk result (KeepsRows entries.now heap.old.lists heap.new.lists (tree shape.now) at) }
 {
-    free_lists(heap, entries, shape, at);
-    fill(heap, entries, shape, at, from)
+    if has_inner_list(shape) {
+        return store_anew(heap, entries, shape, at, from);
+    }
+    match shape {
+        Shape::List(stride, element) => {
+            let elements = reopen_list(heap, entries, at, *stride, first_count(from))?;
+            fill_elements(heap, entries, element, elements, behind(from))
+        }
+        _ => fill(heap, entries, shape, at, from),
+    }
 }

@@ -1,12 +1,11 @@
 -- The front of the pool holds the heap, by rows as the memory of a file has them.
-use Rattle.std.proofs.Common.{◌≡◌, ℕ, ◌+◌, ◌*◌, ◌<◌, ◌≤◌, List, [], ◌∷◌, length, take, drop, get_or, Some, None, sym, ap, ap₂, ◌∙◌, arith, inl, inr}
-use Rattle.std.specs.Int.{from_le_bytes, w16}
-use Rattle.std.proofs.lemmas.Bool.{cases_lt, cases_eq}
-use Rattle.std.proofs.lemmas.List.{drop_more, get_or_past, get_or-take}
+use Rattle.std.proofs.Common.{◌≡◌, ◌≢◌, ◌⊎◌, ℕ, ◌+◌, ◌*◌, ◌<◌, ◌≤◌, List, length, take, drop, get_or, Some, None, sym, ap, ap₂, ◌∙◌, arith, inl, inr, le-leb}
+use Rattle.std.proofs.lemmas.Bool.{cases_lt, cases_eq, cases_order, or_left, or_right}
+use Rattle.std.proofs.lemmas.List.{get_or_past, get_or-take}
 use Rattle.nxt_types.specs.Pool.{round4}
-use Rattle.nxt_model.specs.Reading.{DopeRow, u16_in}
+use Rattle.nxt_model.specs.Reading.{DopeRow, Block, AreApart}
 use Rattle.nxt_rows.specs.declared.DopeRow.{DopeRow as Row}
-use Rattle.nxt_rows.specs.Rows.{u16_at, dope_row, row_count}
+use Rattle.nxt_rows.specs.Rows.{dope_row, row_count}
 use Rattle.nxt_heap.specs.Dumps.{row_of, rows_of, StandAt, IsRowOf, IsFilled, place_of, HoldHeap}
 use Rattle.nxt_heap.specs.Dumps as dumps
 use Rattle.nxt_heap.specs.Lists.{ByteList}
@@ -18,36 +17,11 @@ use Rattle.nxt_heap.proofs.Lists.OfPool.{length-static, list_in-first, list_in-n
 
 -- ---- rows
 
-two_bytes : (bytes : List ℕ) (at : ℕ) → at + 2 ≤ length bytes → take 2 (drop at bytes) ≡ get_or bytes at 0 ∷ get_or bytes (at + 1) 0 ∷ []
-two_bytes bytes at within =
-    ap
-    (take 2)
-    (drop_more bytes at 0 (omega (arith, within))
-    ∙ ap (λ xs. get_or bytes at 0 ∷ xs) (drop_more bytes (at + 1) 0 (omega (arith, within))))
-
-number_reads : (bytes : List ℕ) (at : ℕ) → at + 2 ≤ length bytes → u16_in bytes at ≡ u16_at bytes at
-unfolding u16_at
-number_reads bytes at within =
-    let a = get_or bytes at 0 in
-    let b = get_or bytes (at + 1) 0 in
-    let e : from_le_bytes w16 (a ∷ b ∷ []) ≡ a + 256 * b = omega arith in
-    ap (from_le_bytes w16) (two_bytes bytes at within) ∙ e
-
 -- the fields of a row that are read in two ways
 record IsAs (row : DopeRow) (same : Row) : Type 0 where
   place : row.place ≡ same.place
   stride : row.stride ≡ same.stride
   count : row.count ≡ same.count
-
-row_reads : (bytes : List ℕ) (table r : ℕ) → table + 10 * r + 10 ≤ length bytes → IsAs (row_of bytes table r) (dope_row bytes table r)
-unfolding dope_row
-row_reads bytes table r within =
-    let at = table + 10 * r in
-    record {
-      place = number_reads bytes at (omega (arith, within));
-      stride = number_reads bytes (at + 2) (omega (arith, within));
-      count = number_reads bytes (at + 4) (omega (arith, within));
-    }
 
 -- the front of the pool
 abbrev front : List ℕ → ℕ → List ℕ
@@ -58,14 +32,10 @@ table_fits pool table d =
     omega (arith, length-dump pool table d, end_of-table pool table d, start_of-le pool table 1 (row_count pool table) d.some)
 
 same_row : (pool : List ℕ) (table r : ℕ) → IsDense pool table → r < row_count pool table → IsAs (row_of (front pool table) table r) (dope_row pool table r)
+unfolding dope_row
 same_row pool table r d within =
-    let reads = row_reads (front pool table) table r (omega (arith, within, table_fits pool table d)) in
     let same = dump_row pool table r d within in
-    record {
-      place = reads.place ∙ ap (λ q. q.place) same;
-      stride = reads.stride ∙ ap (λ q. q.stride) same;
-      count = reads.count ∙ ap (λ q. q.count) same;
-    }
+    record { place = ap (λ q. q.place) same; stride = ap (λ q. q.stride) same; count = ap (λ q. q.count) same }
 
 same_count : (pool : List ℕ) (table : ℕ) → IsDense pool table → rows_of (front pool table) table ≡ row_count pool table
 same_count pool table d = (same_row pool table 0 d d.some).count
@@ -142,11 +112,44 @@ begins pool table r d filled =
     let within : r < row_count pool table = omega (arith, filled.within, same_count pool table d) in
     (same_row pool table r d within).place ∙ (filled_stands pool table r d filled).place
 
-ends : (pool : List ℕ) (table r : ℕ) → IsDense pool table → IsFilled (front pool table) table r → dumps.end_of (front pool table) table r ≡ start_of pool table r + row_bytes (dope_row pool table r)
-ends pool table r d filled =
+bytes_are : (pool : List ℕ) (table r : ℕ) → IsDense pool table → IsFilled (front pool table) table r → (dumps.row_block (front pool table) table r).bytes ≡ row_bytes (dope_row pool table r)
+bytes_are pool table r d filled =
     let within : r < row_count pool table = omega (arith, filled.within, same_count pool table d) in
     let same = same_row pool table r d within in
-    ap₂ (λ (a b : ℕ). a + b) (begins pool table r d filled) (ap₂ (λ (a b : ℕ). a * b) same.count same.stride)
+    ap₂ (λ (a b : ℕ). a * b) same.count same.stride
+
+-- the block of a row ends where that of a later one begins, or before
+one_after : (pool : List ℕ) (table q r : ℕ) → IsDense pool table → q < r → IsFilled (front pool table) table q → IsFilled (front pool table) table r
+    → place_of (front pool table) table q + (dumps.row_block (front pool table) table q).bytes ≤ place_of (front pool table) table r
+one_after pool table q r d less first second =
+    omega (
+      arith,
+      begins pool table q d first,
+      bytes_are pool table q d first,
+      begins pool table r d second,
+      le-row_block (dope_row pool table q),
+      blocks_before-le pool table q r less,
+    )
+
+pub apart_from : (a b : Block) → (a.place + a.bytes ≤ b.place) ⊎ (b.place + b.bytes ≤ a.place) → AreApart a b
+apart_from a b h =
+    elim h [
+      | inl e ↦ or_left _ _ (le-leb (a.place + a.bytes) b.place e)
+      | inr e ↦ or_right _ _ (le-leb (b.place + b.bytes) a.place e)
+    ]
+
+two_apart : (pool : List ℕ) (table q r : ℕ) → IsDense pool table → q ≢ r → IsFilled (front pool table) table q → IsFilled (front pool table) table r
+    → AreApart (dumps.row_block (front pool table) table q) (dumps.row_block (front pool table) table r)
+two_apart pool table q r d other first second =
+    let a = dumps.row_block (front pool table) table q in
+    let b = dumps.row_block (front pool table) table r in
+    elim (cases_order q r) [
+      | inl same ↦ absurd (other same)
+      | inr differ ↦ elim differ [
+        | inl less ↦ apart_from a b (inl (one_after pool table q r d less first second))
+        | inr less ↦ apart_from a b (inr (one_after pool table r q d less second first))
+      ]
+    ]
 
 pub holds-dump : (static_size : ℕ) (pool : List ℕ) → IsDense pool (round4 static_size) → HoldHeap (front pool (round4 static_size)) (round4 static_size) (state_of static_size pool)
 holds-dump static_size pool d =
@@ -161,14 +164,10 @@ holds-dump static_size pool d =
       rows = same_count pool table d ∙ sym (length-lists_in pool table);
       fits = omega (arith, same_count pool table d, table_fits pool table d);
       lists = λ r l e. row_is pool table r l d (has_list pool table r l e);
-      behind = λ r filled.
-          omega (arith, same_count pool table d, begins pool table r d filled, end_of-table pool table d, start_of-le pool table 1 r filled.above);
-      apart = λ q r less first second.
-          omega (
-            arith,
-            ends pool table q d first,
-            begins pool table r d second,
-            le-row_block (dope_row pool table q),
-            blocks_before-le pool table q r less,
-          );
+      from_table = λ r filled.
+          apart_from
+          (dumps.table_block (front pool table) table)
+          (dumps.row_block (front pool table) table r)
+          (inl (omega (arith, same_count pool table d, begins pool table r d filled, end_of-table pool table d, start_of-le pool table 1 r filled.above)));
+      apart = λ q r other first second. two_apart pool table q r d other first second;
     }

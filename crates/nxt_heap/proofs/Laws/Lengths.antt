@@ -1,11 +1,17 @@
 -- A list of bytes cut or filled up with zeros.
-use Rattle.std.proofs.Common.{◌≡◌, ℕ, ◌-◌, ◌<◌, ◌≤◌, List, length, take, get_or, replicate, ◌∙◌, arith, length-append, length-take}
-use Rattle.std.proofs.lemmas.List.{get_or-take, get_or-replicate, length-replicate, get_or_append_left, get_or-append_right}
+use Rattle.std.proofs.Common.{◌≡◌, ℕ, ◌-◌, ◌++◌, ap₂, ◌<◌, ◌≤◌, List, length, take, get_or, replicate, ◌∙◌, arith, length-append, length-take}
+use Rattle.std.proofs.lemmas.List.{take_all, append-nil, get_or-take, get_or-replicate, length-replicate, get_or_append_left, get_or-append_right}
 use Rattle.nxt_heap.specs.Lists.{of_length}
 
 pub length-of_length : (n : ℕ) (xs : List ℕ) → length (of_length n xs) ≡ n
 length-of_length n xs =
     omega (arith, length-append (take n xs) (replicate (n - length xs) 0), length-take n xs, length-replicate {A = ℕ} (n - length xs) 0)
+
+-- as many as there are
+pub of_length-same : (n : ℕ) (xs : List ℕ) → length xs ≡ n → of_length n xs ≡ xs
+of_length-same n xs same =
+    let none : n - length xs ≡ 0 = omega (arith, same) in
+    ap₂ (λ front m. front ++ replicate m 0) (take_all n xs (omega (arith, same))) none ∙ append-nil xs
 
 pub of_length-front : (n : ℕ) (xs : List ℕ) (k : ℕ) → k < n → k < length xs → get_or (of_length n xs) k 0 ≡ get_or xs k 0
 of_length-front n xs k below inside =

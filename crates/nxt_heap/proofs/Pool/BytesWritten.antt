@@ -1,15 +1,13 @@
 -- Bytes of a list are written.
-use Rattle.std.proofs.Common.{◌≡◌, ◌≢◌, ℕ, ◌+◌, ◌<◌, ◌≤◌, List, length, take, drop, get_or, set, Some, refl, ap, sym, ◌∙◌, arith, inl, inr, length-set, get_or-set_other}
-use Rattle.std.proofs.lemmas.Bool.{cases_eq, cases_lt}
-use Rattle.std.proofs.lemmas.Grind.{same_number_lists}
-use Rattle.std.proofs.lemmas.List.{get_or-take, get_or-drop, get_or-set_same}
-use Rattle.nxt_heap.specs.PutAt.{put_at}
-use Rattle.nxt_heap.proofs.Laws.PutAt.{length-put_at, put_at-before, put_at-behind, put_at-empty, window-put_at}
+use Rattle.std.proofs.Common.{◌≡◌, ◌≢◌, ℕ, ◌+◌, ◌<◌, ◌≤◌, List, length, take, drop, Some, refl, ap, sym, ◌∙◌, arith, inl, inr}
+use Rattle.std.proofs.lemmas.Bool.{cases_lt}
+use Rattle.nxt_facts.specs.PutAt.{put_at}
+use Rattle.nxt_facts.proofs.PutAt.{length-put_at, put_at-before, put_at-behind, put_at-empty, window-put_at}
 use Rattle.nxt_rows.specs.Rows.{dope_row, row_count, free_rows}
 use Rattle.nxt_rows.proofs.Laws.Writes.{dope_row-kept}
 use Rattle.nxt_heap.specs.Inside.Pool.{row_bytes, row_block, list_in, lists_in, lists_with_bytes, blocks_before, end_of, IsDense}
 use Rattle.nxt_heap.proofs.Lists.Kept.{free_rows-kept, IsFreeChain-kept, list_in-moved}
-use Rattle.nxt_heap.proofs.Pool.Places.{length-window, blocks_before-same, blocks_before-le, le-row_block, row_bytes-none, end_of-table, start_of-le, stands, within_pool}
+use Rattle.nxt_heap.proofs.Pool.Places.{blocks_before-same, blocks_before-le, le-row_block, row_bytes-none, end_of-table, start_of-le, stands, within_pool}
 use Rattle.nxt_heap.proofs.Lists.OfPool.{list_in-some, lists_in-set}
 
 -- the rows stay

@@ -4,7 +4,7 @@ use Rattle.std.proofs.lemmas.Bool.{cases_eq, eq-eqb}
 use Rattle.std.proofs.lemmas.List.{same_lists, get_or-replicate, length-replicate}
 use Rattle.std.specs.List.{list_any}
 use Rattle.nxt_types.specs.Pool.{round4, pool_size}
-use Rattle.nxt_rows.specs.Rows.{u16_at, dope_row, row_count, free_rows, no_place, IsFreeChain}
+use Rattle.nxt_rows.specs.Rows.{dope_row, row_count, free_rows, no_place, IsFreeChain}
 use Rattle.nxt_rows.proofs.Laws.FreeRows.{free_rows-none, IsFreeChain-none}
 use Rattle.nxt_heap.specs.Inside.Pool.{row_bytes, row_block, list_in, lists_in, blocks_before, end_of, IsDense}
 use Rattle.nxt_heap.proofs.Pool.Places.{row_bytes-free, row_block-none, blocks_before-one, blocks_before-next, blocks_before-zero, placed-none, placed-some}
@@ -30,7 +30,7 @@ pub record Freed (pool : List ℕ) (table rows row : ℕ) : Type 0 where
 
 dope_row-zeros : (pool : List ℕ) (table r : ℕ) → ((k : ℕ) → get_or pool k 0 ≡ 0)
     → dope_row pool table r ≡ record { place = 0; stride = 0; count = 0; back = 0; link = 0 }
-unfolding dope_row u16_at
+unfolding dope_row
 dope_row-zeros pool table r zeros = simp zeros
 
 pub Freed-start : (zero pool : List ℕ) (table rows link : ℕ) → 1 ≤ rows → length pool ≡ pool_size → ((k : ℕ) → get_or zero k 0 ≡ 0)

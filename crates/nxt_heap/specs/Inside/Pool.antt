@@ -2,11 +2,11 @@
 -- order of the rows and without gaps.
 use Rattle.std.specs.Prelude.{◌≡◌, ℕ, zero, suc, ◌+◌, ◌*◌, ◌<◌, ◌≤◌, false, List, length, take, drop, map, nat_eq, slice_set, Option, Some, None, if◌then◌else◌, ◌==◌}
 use Rattle.std.specs.List.{list_any, range_with_len, SameBelow}
-use Rattle.nxt_heap.specs.PutAt.{put_at}
+use Rattle.nxt_facts.specs.PutAt.{put_at}
 use Rattle.nxt_types.specs.Pool.{round4, pool_size}
 use Rattle.nxt_rows.specs.Rows.{dope_row, row_count, free_rows, IsFreeChain, no_place}
 use Rattle.nxt_rows.specs.declared.DopeRow.{DopeRow}
-use Rattle.nxt_heap.specs.Lists.{ByteList, Lists, of_length, IsFree, with_free, any_free, empty_list}
+use Rattle.nxt_heap.specs.Lists.{ByteList, Lists, HeapViews, of_length, IsFree, with_free, any_free, empty_list}
 
 -- ---- what the pool holds
 
@@ -32,6 +32,11 @@ lists_in pool table = map (list_in pool table) (range_with_len 0 (row_count pool
 
 abbrev pub state_of : ℕ → List ℕ → Lists
 state_of static_size pool = record { static_bytes = take static_size pool; by_row = lists_in pool (round4 static_size) }
+
+-- both views of a pool behind so many static bytes
+abbrev pub views_of : ℕ → List ℕ → HeapViews
+views_of static_size pool =
+    record { lists = state_of static_size pool; pool = record { bytes = pool; table = round4 static_size } }
 
 -- bytes of a pool with its table at this place read as the static bytes and the lists
 pub record Shows (bytes : List ℕ) (table : ℕ) (h : Lists) : Type 0 where

@@ -6,7 +6,7 @@ use Rattle.std.proofs.lemmas.Bool.{and_from, cases_eq, cases_lt, le-ltb}
 use Rattle.std.proofs.lemmas.List.{map-append}
 use Rattle.std.proofs.lemmas.List.Elements.{All-push}
 use Rattle.std.proofs.lemmas.List.Sums.{fold-append}
-use Rattle.nxt_model.specs.Reading.{u16_in}
+use Rattle.nxt_types.specs.Bytes.{u16_at}
 use Rattle.nxt_layout.specs.declared.named_rows.NamedRows.{NamedRows}
 use Rattle.nxt_layout.specs.declared.places.Places.{Places}
 use Rattle.nxt_layout.specs.Rows.{Ground, names_row, is_beyond}
@@ -63,7 +63,7 @@ small_step at f n s count h k few small = omega (arith, h, k, small, mul-le-mul_
 -- ---- the numbers at places
 
 pub numbers-append : (g : Ground) (place : ℕ) (xs ys : List ℕ) → numbers_in g place (xs ++ ys) ≡ numbers_in g place xs ++ numbers_in g place ys
-numbers-append g place xs ys = map-append (λ base. u16_in g.memory.bytes (base + place)) xs ys
+numbers-append g place xs ys = map-append (λ base. u16_at g.memory.bytes (base + place)) xs ys
 
 -- ---- counts
 
@@ -175,10 +175,10 @@ two_capped : (a b : ℕ) → cap a ≡ cap b → 2 ≤ b → 2 ≤ a
 two_capped a b e h = omega (arith, e, h)
 
 -- a number at a place that is there twice is taken twice
-number_twice : (g : Ground) (place : ℕ) (ks : List ℕ) (x : ℕ) (b : Bool) → names_row g (u16_in g.memory.bytes (x + place)) ≡ b → 2 ≤ times x ks → (if b then keep_twice (kept_of g (numbers_in g place ks)) (u16_in g.memory.bytes (x + place)) else kept_of g (numbers_in g place ks)) ≡ kept_of g (numbers_in g place ks)
+number_twice : (g : Ground) (place : ℕ) (ks : List ℕ) (x : ℕ) (b : Bool) → names_row g (u16_at g.memory.bytes (x + place)) ≡ b → 2 ≤ times x ks → (if b then keep_twice (kept_of g (numbers_in g place ks)) (u16_at g.memory.bytes (x + place)) else kept_of g (numbers_in g place ks)) ≡ kept_of g (numbers_in g place ks)
 number_twice g place ks x false named two = refl
 number_twice g place ks x true named two =
-    let f = λ (y : ℕ). u16_in g.memory.bytes (y + place) in
+    let f = λ (y : ℕ). u16_at g.memory.bytes (y + place) in
     let n = f x in
     let rows = kept_of g (numbers_in g place ks) in
     let named_here = λ (m : ℕ). names_row g m && is_it n m in
@@ -188,12 +188,12 @@ number_twice g place ks x true named two =
     tally-filter (is_it n) (names_row g) (numbers_in g place ks) ∙ total-map (λ m. bit (named_here m)) f ks in
     twice_kept rows n (omega (arith, tally_is (is_it n) rows, two_capped (tally (is_it n) rows) (tally (is_it n) (filter (names_row g) (numbers_in g place ks))) (kept_rows_alike g (numbers_in g place ks) (is_it n)) (omega (arith, held, many))))
 
-one_place : (g : Ground) (place : ℕ) (ks : List ℕ) (x : ℕ) (b : Bool) → nat_lt (times x ks) 2 ≡ b → kept_of g (numbers_in g place (if b then ks ++ x ∷ [] else ks)) ≡ with_number g (kept_of g (numbers_in g place ks)) (u16_in g.memory.bytes (x + place))
+one_place : (g : Ground) (place : ℕ) (ks : List ℕ) (x : ℕ) (b : Bool) → nat_lt (times x ks) 2 ≡ b → kept_of g (numbers_in g place (if b then ks ++ x ∷ [] else ks)) ≡ with_number g (kept_of g (numbers_in g place ks)) (u16_at g.memory.bytes (x + place))
 one_place g place ks x true few =
     ap (kept_of g) (numbers-append g place ks (x ∷ []))
     ∙ fold-append (with_number g) [] (numbers_in g place ks) (numbers_in g place (x ∷ []))
 one_place g place ks x false full =
-    sym (number_twice g place ks x (names_row g (u16_in g.memory.bytes (x + place))) refl (ltb-false (times x ks) 2 full))
+    sym (number_twice g place ks x (names_row g (u16_at g.memory.bytes (x + place))) refl (ltb-false (times x ks) 2 full))
 
 kept_numbers : (g : Ground) (place : ℕ) (all ks : List ℕ) → kept_of g (numbers_in g place (fold keep_twice ks all)) ≡ fold (with_number g) (kept_of g (numbers_in g place ks)) (numbers_in g place all)
 kept_numbers g place [] ks = refl
@@ -217,7 +217,7 @@ takes_all g place all old new none t =
           (is_beyond g)
           (numbers_in g place few)
           (numbers_in g place all)
-          (alike-map (λ base. u16_in g.memory.bytes (base + place)) few all (keep_alike all [])));
+          (alike-map (λ base. u16_at g.memory.bytes (base + place)) few all (keep_alike all [])));
       counted = t.counted;
       table = t.table;
     }

@@ -20,7 +20,7 @@ use Rattle.nxt_layout.proofs.Start.Reads.{when_full}
 use Rattle.nxt_table.proofs.Laws.Leaves.{Rising, table_rises}
 use Rattle.nxt_layout.proofs.Start.LeafOrder.{leaves_found}
 use Rattle.nxt_facts.specs.Pairs.{EachPair}
-use Rattle.nxt_layout.proofs.Laws.LeafSpots.{AreBeside}
+use Rattle.nxt_layout.proofs.Laws.LeafSpans.{AreBeside}
 
 -- ---- apart
 

@@ -2,12 +2,13 @@
 use Rattle.std.proofs.Common.{◌≡◌, ℕ, zero, suc, ◌+◌, ◌*◌, ◌<◌, Bool, true, false, cond, ◌&&◌, ◌||◌, not, ◌==◌, nat_lt, List, [], ◌∷◌, find, sum_by, length, Option, Some, None, inl, inr, refl, sym, ap, ◌∙◌, subst, arith, length-append, lt-ltb}
 use Rattle.std.proofs.lemmas.Bool.{cases_order, eqb-true}
 use Rattle.std.proofs.lemmas.List.Sums.{sum_by-cons}
+use Rattle.nxt_types.specs.Bytes.{u16_at}
 use Rattle.nxt_types.specs.Shapes.{Shape, Void, Number, Array, Cluster, Mutex, Members, no_members, member}
 use Rattle.nxt_types.specs.Names.{size}
 use Rattle.nxt_model.specs.Values.{Value, values, elements, lists_in, lists_among as lists_within}
 use Rattle.nxt_model.specs.Footprint.{list_bytes, member_bytes}
 use Rattle.nxt_types.specs.Pool.{round4}
-use Rattle.nxt_model.specs.Reading.{Memory, HeldList, EachReads, RowReads, Reads, MembersRead, ReadsAs, u16_in, leaf_place}
+use Rattle.nxt_model.specs.Reading.{Memory, HeldList, EachReads, RowReads, Reads, MembersRead, ReadsAs, leaf_place}
 use Rattle.nxt_table.specs.Leaves.{extent}
 use Rattle.nxt_layout.specs.Rows.{Ground, row, has_elements, stride_or, is_strided}
 use Rattle.nxt_facts.proofs.Each.{Each, each_then, each_both, each_passes}
@@ -45,7 +46,7 @@ mutual
   reads_counted m i (Number k) base v ls e = ap lists_in e.1 ∙ sym (ap length e.2)
   reads_counted m i (Array stride s) base v ls e =
       ap lists_in e.1
-      ∙ row_counted m (Reads m (i + 1) s) (reads_counted m (i + 1) s) stride (u16_in m.bytes (leaf_place m i base)) (elements v) ls e.2
+      ∙ row_counted m (Reads m (i + 1) s) (reads_counted m (i + 1) s) stride (u16_at m.bytes (leaf_place m i base)) (elements v) ls e.2
   reads_counted m i (Cluster ss) base v ls e =
       ap lists_in e.0 ∙ members_counted m (i + 1) ss base (elements v) ls e.1
   reads_counted m i Mutex base v ls e = ap lists_in e.0 ∙ sym (ap length e.1)
@@ -87,7 +88,7 @@ mutual
   reads_sized m i Void base v ls e = sym (ap (total bytes_held) e.1)
   reads_sized m i (Number k) base v ls e = sym (ap (total bytes_held) e.2)
   reads_sized m i (Array stride s) base v ls e =
-      row_sized m (Reads m (i + 1) s) (list_bytes s) (reads_sized m (i + 1) s) stride (u16_in m.bytes (leaf_place m i base)) (elements v) ls e.2
+      row_sized m (Reads m (i + 1) s) (list_bytes s) (reads_sized m (i + 1) s) stride (u16_at m.bytes (leaf_place m i base)) (elements v) ls e.2
   reads_sized m i (Cluster ss) base v ls e = members_sized m (i + 1) ss base (elements v) ls e.1
   reads_sized m i Mutex base v ls e = sym (ap (total bytes_held) e.1)
 

@@ -4,18 +4,19 @@ use Rattle.std.proofs.lemmas.Bool.{and_from}
 use Rattle.std.specs.Prelude.{pos}
 use Rattle.nxt_facts.specs.Places.{places_from}
 use Rattle.nxt_facts.proofs.Places.{length-places}
+use Rattle.nxt_types.specs.Bytes.{u16_at}
 use Rattle.nxt_types.specs.Shapes.{Shape, Void, Number, Array, Cluster, Mutex, Members, no_members, member}
 use Rattle.nxt_types.specs.Names.{size}
 use Rattle.nxt_model.specs.Values.{Value, Num, list_of, group_of}
 use Rattle.nxt_model.specs.Means.Text.{number_in}
-use Rattle.nxt_model.specs.Reading.{HeldList, held, EachReads, RowReads, row_count, leaf_place, u16_in}
+use Rattle.nxt_model.specs.Reading.{HeldList, held, EachReads, RowReads, row_count, leaf_place}
 use Rattle.nxt_layout.specs.Rows.{Ground, row, elements_of, names_row}
 use Rattle.nxt_facts.specs.Places.{places_from}
 use Rattle.nxt_facts.proofs.Each.{Each, each_then}
 
 -- the row number that stands in an element
 abbrev pub number_at : Ground → ℕ → ℕ → ℕ
-number_at g i base = u16_in g.memory.bytes (leaf_place g.memory i base)
+number_at g i base = u16_at g.memory.bytes (leaf_place g.memory i base)
 
 abbrev pub row_values : Ground → (ℕ → Value) → ℕ → List Value
 row_values g value zero = []

@@ -2,9 +2,10 @@
 use Rattle.std.specs.Prelude.{ℕ, zero, suc, ◌+◌, ◌-◌, ◌*◌, ◌<◌, ◌≤◌, ◌≡◌, min, max, Bool, true, false, ◌&&◌, ◌||◌, not, ◌==◌, nat_lt, nat_le, List, [], ◌∷◌, ◌++◌, map, filter, find, fold, flat_map, length, replicate, count_by, slice_index, sum_by, option_map, Option, Some, None, if◌then◌else◌}
 use Rattle.std.specs.List.{list_any}
 use Rattle.nxt_facts.specs.Sums.{sum_below}
+use Rattle.nxt_types.specs.Bytes.{u16_at}
 use Rattle.nxt_types.specs.Pool.{round4}
 use Rattle.std.specs.Rc.{rc_slice_items}
-use Rattle.nxt_model.specs.Reading.{row_count, u16_in}
+use Rattle.nxt_model.specs.Reading.{row_count}
 use Rattle.nxt_table.specs.declared.item.Item.{Item}
 use Rattle.nxt_table.specs.declared.item.Item.TheVariants.{Array}
 use Rattle.nxt_table.specs.declared.leaves.PlacedLeaf.{PlacedLeaf}
@@ -75,7 +76,7 @@ rows_of g numbers = ordered (row_count g.memory) (kept_of g numbers)
 
 -- the numbers at this place in elements
 abbrev pub numbers_in : Ground → ℕ → List ℕ → List ℕ
-numbers_in g place bases = map (λ base. u16_in g.memory.bytes (base + place)) bases
+numbers_in g place bases = map (λ base. u16_at g.memory.bytes (base + place)) bases
 
 -- ---- array by array
 

@@ -2,11 +2,11 @@
 use Rattle.std.proofs.Common.{◌≡◌, ◌≢◌, ℕ, ◌+◌, ◌*◌, ◌<◌, ◌≤◌, List, slice_index, refl, arith, inl, inr, Fits, w8, get_or}
 use Rattle.std.proofs.lemmas.Bool.{cases_order}
 use Rattle.std.specs.List.{SameBelow, SameFrom}
+use Rattle.nxt_types.specs.Bytes.{u16_at}
 use Rattle.nxt_rows.specs.declared.DopeRow.{DopeRow}
-use Rattle.nxt_rows.specs.Rows.{u16_at, dope_row, row_count}
+use Rattle.nxt_rows.specs.Rows.{dope_row, row_count}
 
 pub u16_at-kept : (xs ys : List ℕ) (at : ℕ) → ((k : ℕ) → at ≤ k → k < at + 2 → slice_index ys k ≡ slice_index xs k) → u16_at ys at ≡ u16_at xs at
-unfolding u16_at
 u16_at-kept xs ys at same =
     let low : slice_index ys at ≡ slice_index xs at = same at (omega arith) (omega arith) in
     let high : slice_index ys (at + 1) ≡ slice_index xs (at + 1) = same (at + 1) (omega arith) (omega arith) in
@@ -48,7 +48,6 @@ dope_row-written xs table row at to here place stride count back link =
 
 -- the number of rows fits 16 bits
 pub u16_at-fits : (pool : List ℕ) (at : ℕ) → ((i : ℕ) → Fits w8 (get_or pool i 0)) → u16_at pool at < 65536
-unfolding u16_at
 u16_at-fits pool at fits = let low = fits at in let high = fits (at + 1) in omega (arith, low, high)
 
 pub row_count-fits : (pool : List ℕ) (table : ℕ) → ((i : ℕ) → Fits w8 (get_or pool i 0)) → row_count pool table < 65536

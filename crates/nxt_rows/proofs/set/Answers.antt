@@ -1,5 +1,5 @@
 use Rattle.std.proofs.Common.{◌≡◌, ◌∙◌, ◌+◌, arith}
-use Rattle.nxt_rows.specs.Rows.{u16_at}
+use Rattle.nxt_types.specs.Bytes.{u16_at}
 use Rattle.nxt_rows.proofs.Laws.Writes.{u16_at-kept, dope_row-other, dope_row-written}
 use Rattle.nxt_rows.proofs.set.Goals as goal
 

@@ -6,12 +6,13 @@ use Rattle.std.proofs.lemmas.Grind.{same_number_lists}
 use Rattle.std.proofs.lemmas.List.{length-take-le, length-drop, get_or-take, take-append-drop, drop-drop}
 use Rattle.std.proofs.lemmas.List.Elements.{All-from_recursion}
 use Rattle.std.specs.Prelude.{All, flat_map, nat_lt, ◌==◌, slice_index, slice_range}
+use Rattle.nxt_types.specs.Bytes.{u16_at}
 use Rattle.nxt_types.specs.Refusals.{IsAccepted}
 use Rattle.nxt_rxe.specs.declared.fault.RxeFault.TheVariants.{Short, Format, Version, Section, NoMemory}
 use Rattle.nxt_rxe.specs.declared.parts.Header.{Header}
 use Rattle.nxt_rxe.specs.declared.parts.Parts.{Parts}
 use Rattle.nxt_rxe.specs.Files.{format, version, two_bytes, numbers, head_bytes, entry_bytes, clump_bytes, front_bytes, middle_bytes, code_bytes, dependent_count, HasCounts, HasDynamic, IsFile}
-use Rattle.nxt_rxe.specs.FileRules.{number_at, dependents_told, table_end, defaults_end, clumps_start, clumps_end, dependents_end, next_even, code_end, dynamic_passes, Broken}
+use Rattle.nxt_rxe.specs.FileRules.{dependents_told, table_end, defaults_end, clumps_start, clumps_end, dependents_end, next_even, code_end, dynamic_passes, Broken}
 use Rattle.nxt_rxe.specs.Inside.Reading.{HasHead, IsHeader, SectionBytes, AreSections, ArePartsOf}
 use Rattle.nxt_facts.proofs.Tests.{passed, not_both}
 use Rattle.nxt_rxe.proofs.Files.Sections.{no_section}
@@ -129,9 +130,9 @@ module _ (bytes : List ℕ) (h : Header) (b : IsBytes bytes) (long : 38 ≤ leng
       let parts = or_parts _ _ none in
       record {
         defaults = λ some.
-            let le : number_at bytes 24 + number_at bytes 26 ≤ number_at bytes 22 = ltb-false _ _ (not_both _ _ parts.0 (lt-ltb 0 (number_at bytes 26) (omega (arith, some, n26)))) in
+            let le : u16_at bytes 24 + u16_at bytes 26 ≤ u16_at bytes 22 = ltb-false _ _ (not_both _ _ parts.0 (lt-ltb 0 (u16_at bytes 26) (omega (arith, some, n26)))) in
             omega (arith, le, n22, n24, n26);
-        dataspace = let le : number_at bytes 20 + number_at bytes 26 ≤ number_at bytes 18 = ltb-false _ _ parts.1 in omega (arith, le, n18, n20, n26);
+        dataspace = let le : u16_at bytes 20 + u16_at bytes 26 ≤ u16_at bytes 18 = ltb-false _ _ parts.1 in omega (arith, le, n18, n20, n26);
       }
 
 -- ---- the sections

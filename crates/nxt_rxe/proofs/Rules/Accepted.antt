@@ -5,6 +5,7 @@ use Rattle.std.specs.Prelude.{◌||◌, not, nat_lt, ◌==◌, IsTrue, All, flat
 use Rattle.std.proofs.lemmas.List.{length-append}
 use Rattle.std.proofs.Math.ListN.{get_or-append}
 use Rattle.std.proofs.lemmas.List.Sums.{sum_by-cons}
+use Rattle.nxt_types.specs.Bytes.{u16_at}
 use Rattle.nxt_types.specs.Refusals.{IsAccepted}
 use Rattle.nxt_types.specs.declared.lists.ClumpRec.{ClumpRec}
 use Rattle.nxt_rxe.specs.declared.parts.Header.{Header}
@@ -14,7 +15,7 @@ use Rattle.nxt_facts.proofs.Tests.{not_past, not_true}
 use Rattle.nxt_rxe.proofs.Files.Sections.{no_section}
 use Rattle.nxt_rxe.proofs.Files.OneList.{three, whole_is, after_front, after_middle}
 use Rattle.nxt_rxe.specs.Files.{format, version, HasCounts, two_bytes, numbers, head_bytes, entry_bytes, clump_bytes, front_bytes, middle_bytes, code_bytes, dependent_count, IsFile}
-use Rattle.nxt_rxe.specs.FileRules.{number_at, dependents_told, clumps_start, clumps_end, code_end, dynamic_passes, Broken}
+use Rattle.nxt_rxe.specs.FileRules.{dependents_told, clumps_start, clumps_end, code_end, dynamic_passes, Broken}
 
 -- ---- numbers
 
@@ -23,28 +24,28 @@ of_bytes : (n : ℕ) → n < 2 ^ 16 → n % 256 + 256 * (n / 256 % 256) ≡ n
 of_bytes n lt = omega (arith, lt)
 
 module _ (h : Header) (tail : List ℕ) (fits : All (λ n. n < 2 ^ 16) (numbers h)) where
-  toc_count_is : number_at (head_bytes h ++ tail) 16 ≡ h.toc_count
+  toc_count_is : u16_at (head_bytes h ++ tail) 16 ≡ h.toc_count
   toc_count_is = of_bytes h.toc_count (fits 0 0 (omega arith))
 
-  initial_is : number_at (head_bytes h ++ tail) 18 ≡ h.initial
+  initial_is : u16_at (head_bytes h ++ tail) 18 ≡ h.initial
   initial_is = of_bytes h.initial (fits 1 0 (omega arith))
 
-  static_size_is : number_at (head_bytes h ++ tail) 20 ≡ h.static_size
+  static_size_is : u16_at (head_bytes h ++ tail) 20 ≡ h.static_size
   static_size_is = of_bytes h.static_size (fits 2 0 (omega arith))
 
-  default_size_is : number_at (head_bytes h ++ tail) 22 ≡ h.default_size
+  default_size_is : u16_at (head_bytes h ++ tail) 22 ≡ h.default_size
   default_size_is = of_bytes h.default_size (fits 3 0 (omega arith))
 
-  dyn_at_is : number_at (head_bytes h ++ tail) 24 ≡ h.dyn_at
+  dyn_at_is : u16_at (head_bytes h ++ tail) 24 ≡ h.dyn_at
   dyn_at_is = of_bytes h.dyn_at (fits 4 0 (omega arith))
 
-  dyn_size_is : number_at (head_bytes h ++ tail) 26 ≡ h.dyn_size
+  dyn_size_is : u16_at (head_bytes h ++ tail) 26 ≡ h.dyn_size
   dyn_size_is = of_bytes h.dyn_size (fits 5 0 (omega arith))
 
-  clump_count_is : number_at (head_bytes h ++ tail) 34 ≡ h.clump_count
+  clump_count_is : u16_at (head_bytes h ++ tail) 34 ≡ h.clump_count
   clump_count_is = of_bytes h.clump_count (fits 9 0 (omega arith))
 
-  word_count_is : number_at (head_bytes h ++ tail) 36 ≡ h.word_count
+  word_count_is : u16_at (head_bytes h ++ tail) 36 ≡ h.word_count
   word_count_is = of_bytes h.word_count (fits 10 0 (omega arith))
 
 -- ---- clump records
@@ -86,14 +87,14 @@ code_len p counts = let words = flat_len two_bytes 2 (λ x. refl) p.code in omeg
 
 -- what a file's bytes show
 record Shown (bytes : List ℕ) (p : Parts) : Type 0 where
-  toc_count : number_at bytes 16 ≡ p.header.toc_count
-  initial : number_at bytes 18 ≡ p.header.initial
-  static_size : number_at bytes 20 ≡ p.header.static_size
-  default_size : number_at bytes 22 ≡ p.header.default_size
-  dyn_at : number_at bytes 24 ≡ p.header.dyn_at
-  dyn_size : number_at bytes 26 ≡ p.header.dyn_size
-  clump_count : number_at bytes 34 ≡ p.header.clump_count
-  word_count : number_at bytes 36 ≡ p.header.word_count
+  toc_count : u16_at bytes 16 ≡ p.header.toc_count
+  initial : u16_at bytes 18 ≡ p.header.initial
+  static_size : u16_at bytes 20 ≡ p.header.static_size
+  default_size : u16_at bytes 22 ≡ p.header.default_size
+  dyn_at : u16_at bytes 24 ≡ p.header.dyn_at
+  dyn_size : u16_at bytes 26 ≡ p.header.dyn_size
+  clump_count : u16_at bytes 34 ≡ p.header.clump_count
+  word_count : u16_at bytes 36 ≡ p.header.word_count
   format : (i : ℕ) → i < 14 → slice_index bytes i ≡ slice_index format i
   version : slice_index bytes 15 + 256 * slice_index bytes 14 ≡ 5
 
@@ -182,8 +183,8 @@ no_dynamic bytes p f =
     let whole = f.dynamic.dataspace in
     one_of _ _
     (λ h. let parts = and_parts _ _ h in
-    let some : 0 < number_at bytes 26 = ltb-true _ _ parts.0 in
-    let past : number_at bytes 22 < number_at bytes 24 + number_at bytes 26 = ltb-true _ _ parts.1 in
+    let some : 0 < u16_at bytes 26 = ltb-true _ _ parts.0 in
+    let past : u16_at bytes 22 < u16_at bytes 24 + u16_at bytes 26 = ltb-true _ _ parts.1 in
     let fits = f.dynamic.defaults (omega (arith, some, n26)) in
     omega (arith, past, fits, n22, n24, n26))
     (not_past _ _ (omega (arith, whole, n18, n20, n26)))

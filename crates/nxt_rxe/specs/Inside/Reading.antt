@@ -1,12 +1,13 @@
 -- What the steps of reading a file find.
 use Rattle.std.specs.Prelude.{◌≡◌, ℕ, ◌<◌, ◌≤◌, false, List, length, slice_range, flat_map, All, ◌^◌}
+use Rattle.nxt_types.specs.Bytes.{u16_at}
 use Rattle.nxt_rxe.specs.declared.fault.RxeFault.{RxeFault}
 use Rattle.nxt_rxe.specs.declared.fault.RxeFault.TheVariants.{Format, Version, Section}
 use Rattle.nxt_rxe.specs.declared.parts.Header.{Header}
 use Rattle.nxt_rxe.specs.declared.parts.Parts.{Parts}
 use Rattle.nxt_rxe.specs.declared.sections.Sections.{Sections}
 use Rattle.nxt_rxe.specs.Files.{two_bytes, entry_bytes, clump_bytes, EntryFits, ClumpFits}
-use Rattle.nxt_rxe.specs.FileRules.{number_at, table_end, defaults_end, clumps_start, clumps_end, dependents_end, next_even, code_end, dynamic_passes, Broken}
+use Rattle.nxt_rxe.specs.FileRules.{table_end, defaults_end, clumps_start, clumps_end, dependents_end, next_even, code_end, dynamic_passes, Broken}
 
 -- the head is whole, and its format and its version are right
 pub record HasHead (bytes : List ℕ) : Type 0 where
@@ -16,17 +17,17 @@ pub record HasHead (bytes : List ℕ) : Type 0 where
 
 -- the bytes show this header
 pub record IsHeader (bytes : List ℕ) (h : Header) : Type 0 where
-  pub toc_count : h.toc_count ≡ number_at bytes 16
-  pub initial : h.initial ≡ number_at bytes 18
-  pub static_size : h.static_size ≡ number_at bytes 20
-  pub default_size : h.default_size ≡ number_at bytes 22
-  pub dyn_at : h.dyn_at ≡ number_at bytes 24
-  pub dyn_size : h.dyn_size ≡ number_at bytes 26
-  pub head : h.head ≡ number_at bytes 28
-  pub tail : h.tail ≡ number_at bytes 30
-  pub dope_at : h.dope_at ≡ number_at bytes 32
-  pub clump_count : h.clump_count ≡ number_at bytes 34
-  pub word_count : h.word_count ≡ number_at bytes 36
+  pub toc_count : h.toc_count ≡ u16_at bytes 16
+  pub initial : h.initial ≡ u16_at bytes 18
+  pub static_size : h.static_size ≡ u16_at bytes 20
+  pub default_size : h.default_size ≡ u16_at bytes 22
+  pub dyn_at : h.dyn_at ≡ u16_at bytes 24
+  pub dyn_size : h.dyn_size ≡ u16_at bytes 26
+  pub head : h.head ≡ u16_at bytes 28
+  pub tail : h.tail ≡ u16_at bytes 30
+  pub dope_at : h.dope_at ≡ u16_at bytes 32
+  pub clump_count : h.clump_count ≡ u16_at bytes 34
+  pub word_count : h.word_count ≡ u16_at bytes 36
 
 -- the bytes of each section
 pub record SectionBytes : Type 0 where

@@ -11,7 +11,7 @@ use Rattle.nxt_types.specs.Pool.{pool_size}
 use Rattle.nxt_heap.specs.Lists.{Lists, block_of}
 use Rattle.nxt_space.specs.Inside.Kept.{Stand, IsVariable, values_of, shape_in, value_in}
 use Rattle.nxt_values.specs.Held.{value_at}
-use Rattle.nxt_values.specs.declared.reading.Home.TheVariants.{Static}
+use Rattle.nxt_values.specs.declared.reading.Region.TheVariants.{Static}
 use Rattle.nxt_values.specs.Sizes.{size_in, IsCountable}
 use Rattle.nxt_space.specs.Variables.{shape_by, value_by}
 use Rattle.nxt_values.proofs.Laws.Shapes.{held_of}
@@ -50,11 +50,11 @@ pub countable : (toc : Table) (h : Lists) (s : Shape) (v : Value) → Stand toc 
 countable toc h s v e few part = record { lists = omega (arith, few, part.lists); bytes = omega (arith, part.bytes, blocks_within toc h e) }
 
 -- what the table tells of an entry stands in the static bytes
-pub variable_there : (toc : Table) (h : Lists) (i : ℕ) (s : Shape) → Stand toc h → Some s ≡ option_map (λ n. n.shape) (name_among toc.shapes 0 i) → IsVariable toc h i s (record { home = Static; entry = i; base = 0 })
+pub variable_there : (toc : Table) (h : Lists) (i : ℕ) (s : Shape) → Stand toc h → Some s ≡ option_map (λ n. n.shape) (name_among toc.shapes 0 i) → IsVariable toc h i s (record { region = Static; entry = i; base = 0 })
 variable_there toc h i s e is =
     let v = is_variable toc h i s e is in
     record {
-      there = record { home = tt; entries = v.entries; holds = v.holds };
+      there = record { region = tt; entries = v.entries; holds = v.holds };
       room = v.room;
       shape = sym v.shape;
       value = v.value;

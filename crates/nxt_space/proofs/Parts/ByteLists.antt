@@ -14,12 +14,12 @@ use Rattle.nxt_facts.specs.Places.{places_from}
 use Rattle.nxt_heap.specs.Lists.{Lists, bytes_at}
 use Rattle.nxt_values.specs.Fills.{RoomThere}
 use Rattle.nxt_values.specs.Held.{row_in}
-use Rattle.nxt_values.specs.Homes.{bytes_in, value_there}
+use Rattle.nxt_values.specs.Regions.{bytes_in, value_there}
 use Rattle.nxt_space.specs.Variables.{list_of_bytes}
 use Rattle.nxt_values.specs.declared.reading.Place.{Place}
 
 -- the numbers that the bytes from the k-th on tell
-bytes_read : (bytes : List ℕ) (n k : ℕ) → k + n ≡ length bytes → map (λ at. Num (number_in Ubyte (drop (at + 0) bytes))) (places_from k 1 n) ≡ map (λ b. Num (extend Ubyte b)) (drop k bytes)
+pub bytes_read : (bytes : List ℕ) (n k : ℕ) → k + n ≡ length bytes → map (λ at. Num (number_in Ubyte (drop (at + 0) bytes))) (places_from k 1 n) ≡ map (λ b. Num (extend Ubyte b)) (drop k bytes)
 bytes_read bytes zero k e = sym (ap (map (λ b. Num (extend Ubyte b))) (drop_of_length-le bytes (omega (arith, e))))
 bytes_read bytes (suc n) k e =
     let b = get_or bytes k 0 in
@@ -33,9 +33,9 @@ bytes_read bytes (suc n) k e =
     ∙ sym (ap (map (λ b. Num (extend Ubyte b))) here)
 
 -- a list of bytes that has room for one byte each
-pub list_bytes_read : (table : List TocEntry) (h : Lists) (whole : Shape) (at : Place) (row : ℕ) (bytes : List ℕ) → whole ≡ Array 1 (Number Ubyte) → RoomThere table h whole at → row ≡ row_in table at.entry (bytes_in h at.home) at.base → bytes ≡ bytes_at h row → value_there table h whole at ≡ list_of_bytes bytes
+pub list_bytes_read : (table : List TocEntry) (h : Lists) (whole : Shape) (at : Place) (row : ℕ) (bytes : List ℕ) → whole ≡ Array 1 (Number Ubyte) → RoomThere table h whole at → row ≡ row_in table at.entry (bytes_in h at.region) at.base → bytes ≡ bytes_at h row → value_there table h whole at ≡ list_of_bytes bytes
 list_bytes_read table h whole at row bytes is room named held =
-    let own = bytes_at h (row_in table at.entry (bytes_in h at.home) at.base) in
+    let own = bytes_at h (row_in table at.entry (bytes_in h at.region) at.base) in
     let same : own ≡ bytes = sym (held ∙ ap (bytes_at h) named) in
     let fits = (subst (λ w. RoomThere table h w at) is room).fits.4 in
     let first : desc_of (slice_get table (at.entry + 1)) ≡ 0 = omega (arith, fits) in

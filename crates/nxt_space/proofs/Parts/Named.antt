@@ -9,7 +9,7 @@ use Rattle.nxt_model.specs.Values.{Value, Num, group_of, part, with_part}
 use Rattle.nxt_model.proofs.Laws.Values.{items-values}
 use Rattle.nxt_heap.specs.Lists.{Lists}
 use Rattle.nxt_values.specs.Held.{value_at, values_among, values_in}
-use Rattle.nxt_values.specs.declared.reading.Home.TheVariants.{Static}
+use Rattle.nxt_values.specs.declared.reading.Region.TheVariants.{Static}
 use Rattle.nxt_values.proofs.Laws.StoredPart.{StandsIn, StandsAmong, with_value, with_value_among}
 use Rattle.nxt_values.proofs.Laws.StoredHeld.{with_part_value}
 

@@ -12,11 +12,11 @@ use Rattle.nxt_types.specs.Pool.{round4, pool_size}
 use Rattle.nxt_heap.specs.Lists.{Lists, list_at, block_of, with_list, footprint}
 use Rattle.nxt_values.specs.Held.{rows_at, Holds}
 use Rattle.nxt_space.specs.Inside.Kept.{Stand, Stores, values_of, with_stored, bytes_with}
-use Rattle.nxt_model.specs.Spots.{HasSpots}
+use Rattle.nxt_model.specs.Spans.{HasSpans}
 use Rattle.nxt_space.specs.Variables.{shape_by, with_by}
 use Rattle.nxt_values.specs.Writes.{without, AreOwn}
 use Rattle.nxt_values.specs.Fills.{Fills, HasRoom, filled, living, needs_for}
-use Rattle.nxt_values.specs.declared.reading.Home.TheVariants.{Static}
+use Rattle.nxt_values.specs.declared.reading.Region.TheVariants.{Static}
 use Rattle.nxt_values.proofs.Laws.Shapes.{held_of}
 use Rattle.nxt_values.proofs.Laws.HeldSizes.{row_size, value_counted, value_sized, lists_counted, lists_sized}
 use Rattle.nxt_values.proofs.Laws.HeldRows.{rows_alive}
@@ -109,10 +109,10 @@ stored_stands toc h g i n zs rest e named pool some first fills =
     let v = (filled s zs).0 in
     let l = leaves toc h i n zs e named in
     let stands = name_stands ss i n named in
-    let held = stored_held table ss h g s i zs rest e.held e.spots stands fills in
+    let held = stored_held table ss h g s i zs rest e.held e.spans stands fills in
     let long : length g.static_bytes ≡ length h.static_bytes = fills.grows.long ∙ ap length l.static in
     let values : values_of toc g ≡ with_stored toc h i zs =
-    stored_values table ss h g s i zs rest e.held e.spots stands fills
+    stored_values table ss h g s i zs rest e.held e.spans stands fills
     ∙ with_named table ss h i n named v
     ∙ sym (with_name toc h i n zs named) in
     let counted = held_living table ss g held in
@@ -120,7 +120,7 @@ stored_stands toc h g i n zs rest e named pool some first fills =
     record {
       stand = record {
         entries = e.entries;
-        spots = subst (HasSpots table ss) (sym long) e.spots;
+        spans = subst (HasSpans table ss) (sym long) e.spans;
         held = held;
         first = first;
         pool = pool;

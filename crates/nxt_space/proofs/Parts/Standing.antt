@@ -10,12 +10,12 @@ use Rattle.nxt_table.proofs.Laws.StrideFree.{size_of_table}
 use Rattle.nxt_heap.specs.Lists.{Lists}
 use Rattle.nxt_values.specs.Held.{value_at, rows_at, rows_among, Holds, HoldAll}
 use Rattle.nxt_space.specs.Inside.Kept.{Stand, shape_in, value_in, values_of}
-use Rattle.nxt_model.specs.Spots.{spots, spots_among, IsApart, AreApart, FitsIn, FitAll}
+use Rattle.nxt_model.specs.Spans.{spans, spans_among, IsApart, AreApart, FitsIn, FitAll}
 use Rattle.nxt_facts.specs.Pairs.{EachPair}
 use Rattle.nxt_values.specs.Fills.{HasRoom}
 use Rattle.nxt_space.specs.Variables.{shape_by, value_by}
 use Rattle.nxt_values.specs.Writes.{AreOwn, IsOther}
-use Rattle.nxt_values.specs.declared.reading.Home.TheVariants.{Static}
+use Rattle.nxt_values.specs.declared.reading.Region.TheVariants.{Static}
 use Rattle.nxt_facts.proofs.Pairs.{pair_parts, each_pair}
 use Rattle.nxt_space.proofs.Parts.Named.{name_stands, part_named}
 use Rattle.nxt_values.proofs.Laws.StoredPart.{IsIt, StandsIn, StandsAmong}
@@ -26,7 +26,7 @@ use Rattle.nxt_values.proofs.Laws.Without.{Differ}
 -- the part is there, in so many entries, with room and rows of its own
 pub record IsInside (table : List TocEntry) (h : Lists) (n : ℕ) (s : Shape) (j end : ℕ) : Type 0 where
   pub holds : Holds table h s j h.static_bytes 0
-  pub apart : AreApart (spots table s j)
+  pub apart : AreApart (spans table s j)
   pub fits : FitsIn table s j n
   pub own : EachPair Differ (rows_at table h s j h.static_bytes 0)
   pub before : j + size s ≤ end
@@ -49,16 +49,16 @@ mutual
       inside_more table h n s j (i + 1 + sizes ss) (i + size (Cluster ss)) (omega arith) (inside_members table h n s j ss (i + 1) is e.holds e.apart e.fits e.own)
   inside_shape table h n s j Mutex i is e = it_is_inside table h n Mutex i s j is e
 
-  inside_members : (table : List TocEntry) (h : Lists) (n : ℕ) (s : Shape) (j : ℕ) (ss : Members) (i : ℕ) → StandsAmong ss i s j → HoldAll table h ss i h.static_bytes 0 → AreApart (spots_among table ss i) → FitAll table ss i n → EachPair Differ (rows_among table h ss i h.static_bytes 0) → IsInside table h n s j (i + sizes ss)
+  inside_members : (table : List TocEntry) (h : Lists) (n : ℕ) (s : Shape) (j : ℕ) (ss : Members) (i : ℕ) → StandsAmong ss i s j → HoldAll table h ss i h.static_bytes 0 → AreApart (spans_among table ss i) → FitAll table ss i n → EachPair Differ (rows_among table h ss i h.static_bytes 0) → IsInside table h n s j (i + sizes ss)
   inside_members table h n s j no_members i is holds apart fits own = absurd is
   inside_members table h n s j (member t ts) i (inl is) holds apart fits own =
-      let spots = pair_parts IsApart (spots table t i) (spots_among table ts (i + size t)) apart in
+      let spans = pair_parts IsApart (spans table t i) (spans_among table ts (i + size t)) apart in
       let rows = pair_parts Differ (rows_at table h t i h.static_bytes 0) (rows_among table h ts (i + size t) h.static_bytes 0) own in
-      inside_more table h n s j (i + size t) (i + sizes (member t ts)) (omega arith) (inside_shape table h n s j t i is (record { holds = holds.0; apart = spots.first; fits = fits.0; own = rows.first; before = omega arith }))
+      inside_more table h n s j (i + size t) (i + sizes (member t ts)) (omega arith) (inside_shape table h n s j t i is (record { holds = holds.0; apart = spans.first; fits = fits.0; own = rows.first; before = omega arith }))
   inside_members table h n s j (member t ts) i (inr is) holds apart fits own =
-      let spots = pair_parts IsApart (spots table t i) (spots_among table ts (i + size t)) apart in
+      let spans = pair_parts IsApart (spans table t i) (spans_among table ts (i + size t)) apart in
       let rows = pair_parts Differ (rows_at table h t i h.static_bytes 0) (rows_among table h ts (i + size t) h.static_bytes 0) own in
-      inside_more table h n s j (i + size t + sizes ts) (i + sizes (member t ts)) (omega arith) (inside_members table h n s j ts (i + size t) is holds.1 spots.rest fits.1 rows.rest)
+      inside_more table h n s j (i + size t + sizes ts) (i + sizes (member t ts)) (omega arith) (inside_members table h n s j ts (i + size t) is holds.1 spans.rest fits.1 rows.rest)
 
 -- ---- what an entry names
 
@@ -80,7 +80,7 @@ named_variable toc h i n e named =
     let size_is = size_of_table table toc.shapes e.held.spelled in
     let rows = rows_among table h toc.shapes 0 h.static_bytes 0 in
     let all : length h.static_bytes ≡ length h.static_bytes - 0 = omega arith in
-    let inside = inside_members table h (length h.static_bytes) n.shape i toc.shapes 0 (name_stands toc.shapes i n named) e.held.holds e.spots.apart e.spots.fit (each_pair Differ rows e.held.own) in
+    let inside = inside_members table h (length h.static_bytes) n.shape i toc.shapes 0 (name_stands toc.shapes i n named) e.held.holds e.spans.apart e.spans.fit (each_pair Differ rows e.held.own) in
     record {
       name = n;
       named = named;

@@ -1,8 +1,8 @@
 -- Lists with rows of their own share no byte of a pool.
-use Rattle.std.proofs.Common.{◌≡◌, ◌≢◌, ◌⊎◌, ℕ, ◌+◌, ◌*◌, ◌/◌, ◌<◌, ◌≤◌, Bool, true, false, cond, nat_lt, List, [], ◌∷◌, map, filter, length, AllPairs, Option, Some, None, is_some, inl, inr, refl, sym, ap, ◌∙◌, arith, le-leb, ltb-true, zero-mul}
+use Rattle.std.proofs.Common.{◌≡◌, ◌≢◌, ℕ, ◌*◌, ◌/◌, ◌<◌, Bool, true, false, cond, nat_lt, List, [], ◌∷◌, map, filter, length, AllPairs, Option, Some, None, is_some, inl, inr, refl, sym, ap, ◌∙◌, arith, ltb-true, zero-mul}
 use Rattle.std.proofs.Math.Nat.{zero-div}
-use Rattle.std.proofs.lemmas.Bool.{cases_eq, cases_order, or_left, or_right}
-use Rattle.nxt_model.specs.Reading.{Memory, HeldList, Block, AreApart, dope_row, with_row, non_empty, list_block, table_block, blocks_of}
+use Rattle.std.proofs.lemmas.Bool.{cases_eq}
+use Rattle.nxt_model.specs.Reading.{Memory, HeldList, AreApart, dope_row, with_row, non_empty, list_block, table_block, blocks_of}
 use Rattle.nxt_facts.proofs.Each.{Each, each_from, each_then, each_both, each_filter, each_mapped}
 use Rattle.nxt_facts.proofs.Pairs.{all_pairs}
 use Rattle.nxt_heap.specs.Dumps.{IsFilled, HoldHeap}
@@ -61,13 +61,6 @@ own_lists h rows own =
 
 -- ---- blocks
 
-apart_from : (a b : Block) → (a.place + a.bytes ≤ b.place) ⊎ (b.place + b.bytes ≤ a.place) → AreApart a b
-apart_from a b h =
-    elim h [
-      | inl e ↦ or_left _ _ (le-leb (a.place + a.bytes) b.place e)
-      | inr e ↦ or_right _ _ (le-leb (b.place + b.bytes) a.place e)
-    ]
-
 module _ (m : Memory) (h : Lists) (pool : HoldHeap m.bytes m.table h) where
   abbrev Full : HeldList → Type 0
   Full l = 0 < l.count → IsFilled m.bytes m.table l.row
@@ -96,19 +89,10 @@ module _ (m : Memory) (h : Lists) (pool : HoldHeap m.bytes m.table h) where
 
   two_apart : (a b : HeldList) → Full a → Full b → nat_lt 0 a.count ≡ true → nat_lt 0 b.count ≡ true → OwnRows a b → AreApart (list_block m a) (list_block m b)
   two_apart a b f g some more other =
-      let first = f (ltb-true 0 a.count some) in
-      let second = g (ltb-true 0 b.count more) in
-      elim (cases_order a.row b.row) [
-        | inl same ↦ absurd (other same)
-        | inr apart ↦ elim apart [
-          | inl less ↦ apart_from (list_block m a) (list_block m b) (inl (pool.apart a.row b.row less first second))
-          | inr less ↦ apart_from (list_block m a) (list_block m b) (inr (pool.apart b.row a.row less second first))
-        ]
-      ]
+      pool.apart a.row b.row other (f (ltb-true 0 a.count some)) (g (ltb-true 0 b.count more))
 
   from_table : (a : HeldList) → Full a → nat_lt 0 a.count ≡ true → AreApart (table_block m) (list_block m a)
-  from_table a f some =
-      apart_from (table_block m) (list_block m a) (inl (pool.behind a.row (f (ltb-true 0 a.count some))))
+  from_table a f some = pool.from_table a.row (f (ltb-true 0 a.count some))
 
   blocks_apart : (lists : List HeldList) → Each Full lists → EachPair OwnRows lists → EachPair AreApart (blocks_of m lists)
   blocks_apart [] full own = tt

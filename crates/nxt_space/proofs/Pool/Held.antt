@@ -6,7 +6,7 @@ use Rattle.nxt_model.specs.Values.{group_of}
 use Rattle.nxt_model.specs.Reading.{Memory, MembersRead}
 use Rattle.nxt_model.proofs.Laws.Values.{items-values}
 use Rattle.nxt_heap.specs.Dumps.{HoldHeap}
-use Rattle.nxt_heap.specs.Lists.{Lists, table_of}
+use Rattle.nxt_heap.specs.Lists.{Lists}
 use Rattle.nxt_values.specs.Held.{values_among, rows_among}
 use Rattle.nxt_space.specs.Inside.Kept.{Stand, variables_in}
 use Rattle.nxt_space.specs.Variables.{ReadsAsPool}
@@ -16,9 +16,9 @@ use Rattle.nxt_space.proofs.Pool.Apart.{own_lists, apart_lists}
 use Rattle.nxt_space.proofs.Pool.Reads.{lists_in, members_read}
 use Rattle.nxt_values.proofs.Laws.Without.{Differ}
 
-pub pool_reads : (toc : Table) (h : Lists) (start : List ℤ) (start_rows : ℕ) (bytes : List ℕ) → Stand toc h → HoldHeap bytes (table_of h) h → ReadsAsPool (variables_in toc h start start_rows) bytes
-pool_reads toc h start start_rows bytes e pool =
-    let m : Memory = record { entries = toc.entries; bytes = bytes; table = table_of h } in
+pub pool_reads : (toc : Table) (h : Lists) (start : List ℤ) (start_rows : ℕ) (table : ℕ) (bytes : List ℕ) → Stand toc h → HoldHeap bytes table h → ReadsAsPool (variables_in toc h start start_rows) table bytes
+pool_reads toc h start start_rows table bytes e pool =
+    let m : Memory = record { entries = toc.entries; bytes = bytes; table = table } in
     let rows = rows_among toc.entries h toc.shapes 0 h.static_bytes 0 in
     let vs = values_among toc.entries h toc.shapes 0 h.static_bytes 0 in
     let alive = all_alive toc.entries h toc.shapes 0 h.static_bytes 0 e.held.holds in

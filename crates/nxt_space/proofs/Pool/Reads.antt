@@ -1,12 +1,14 @@
 -- What a pool reads as, where it holds a heap that holds the variables.
 use Rattle.std.proofs.Common.{◌≡◌, ℕ, zero, suc, ◌+◌, ◌-◌, ◌*◌, ◌/◌, ◌<◌, ◌≤◌, List, ◌∷◌, map, flat_map, take, drop, length, None, refl, sym, ap, ap₂, ◌∙◌, subst, arith, mul-div_cancel}
-use Rattle.std.specs.Int.{from_le_bytes, w16}
+use Rattle.std.specs.Int.{from_le_bytes}
 use Rattle.std.proofs.lemmas.List.{drop-drop, drop-take, take-take, length-map, map-append}
 use Rattle.nxt_types.specs.Arithmetic.{width_of, leaf_size, extend}
+use Rattle.nxt_types.specs.Bytes.{u16_at}
 use Rattle.nxt_types.specs.Shapes.{Shape, Void, Number, Array, Cluster, Mutex, Members, no_members, member}
 use Rattle.nxt_types.specs.Names.{size}
+use Rattle.nxt_types.proofs.Laws.Bytes.{u16_at-same}
 use Rattle.nxt_model.specs.Values.{Value, Num, list_of, group_of, elements}
-use Rattle.nxt_model.specs.Reading.{Memory, HeldList, held, dope_row, EachReads, RowReads, Reads, MembersRead, u16_in}
+use Rattle.nxt_model.specs.Reading.{Memory, HeldList, held, dope_row, EachReads, RowReads, Reads, MembersRead}
 use Rattle.nxt_model.specs.Reading.{leaf_place as pool_place}
 use Rattle.nxt_model.proofs.Laws.Values.{items-values}
 use Rattle.nxt_facts.specs.Places.{places_from}
@@ -115,8 +117,8 @@ module _ (m : Memory) (h : Lists) (pool : HoldHeap m.bytes m.table h) (first : l
         let rows = rows_at m.entries h s (i + 1) own in
         let lists = list_in h row ∷ lists_in h (flat_map rows starts) in
         let at = (dope_row m row).place in
-        let named : u16_in m.bytes (pool_place m i (place + base)) ≡ row =
-        ap (from_le_bytes w16) (ap (λ at. take 2 (drop at m.bytes)) there ∙ window m.bytes bytes place (leaf_place m.entries i base) 2 stand e.0) in
+        let named : u16_at m.bytes (pool_place m i (place + base)) ≡ row =
+        u16_at-same m.bytes bytes _ _ (ap (λ at. take 2 (drop at m.bytes)) there ∙ window m.bytes bytes place (leaf_place m.entries i base) 2 stand e.0) in
         let reads : RowReads m (Reads m (i + 1) s) stride row (map value starts) lists =
         row_reads m h (Reads m (i + 1) s) value rows (Holds m.entries h s (i + 1)) stride row pool first e.1 (λ here.
         each_then

@@ -9,10 +9,10 @@ use Rattle.nxt_model.specs.Footprint.{member_bytes}
 use Rattle.nxt_types.specs.Pool.{round4, pool_size}
 use Rattle.nxt_table.proofs.Laws.StrideFree.{size_of_table}
 use Rattle.nxt_heap.specs.Lists.{Lists, list_at, footprint, IsAlive}
-use Rattle.nxt_model.specs.Spots.{HasSpots}
+use Rattle.nxt_model.specs.Spans.{HasSpans}
 use Rattle.nxt_values.specs.Fills.{all_filled, living, needs, needs_for_all, FillsAll}
 use Rattle.nxt_space.specs.Inside.Kept.{bytes_with, started_as, Stores, CanStart}
-use Rattle.nxt_values.specs.declared.reading.Home.TheVariants.{Static}
+use Rattle.nxt_values.specs.declared.reading.Region.TheVariants.{Static}
 use Rattle.nxt_values.proofs.Laws.Begun.{filled_held, filled_values}
 use Rattle.nxt_values.proofs.Laws.HeldSizes.{lists_counted}
 use Rattle.nxt_values.proofs.Laws.HeldRows.{held_rows}
@@ -73,7 +73,7 @@ start_stored toc ss h g start rest e fills pool some first =
     record {
       stand = record {
         entries = e.entries;
-        spots = subst (HasSpots toc.entries toc.shapes) (sym filled.grows.long) e.spots;
+        spans = subst (HasSpans toc.entries toc.shapes) (sym filled.grows.long) e.spans;
         held = held;
         first = first;
         pool = pool;

@@ -1,10 +1,11 @@
 -- Flat forms of what a file's memory reads as, element by element and member by member.
 use Rattle.std.proofs.Common.{◌≡◌, ℕ, zero, suc, ◌+◌, ◌*◌, ◌<◌, ◌≤◌, List, [], ◌∷◌, ◌++◌, length, refl, sym, ap, ◌∙◌, subst, arith, append_assoc, append-nil, suc-mul}
 use Rattle.std.specs.Prelude.{ℤ, pos}
+use Rattle.nxt_types.specs.Bytes.{u16_at}
 use Rattle.nxt_types.specs.Shapes.{Shape, Array, Members, no_members, member}
 use Rattle.nxt_types.specs.Names.{size, sizes}
 use Rattle.nxt_model.specs.Values.{Value, values, elements, list_of, flat, flats}
-use Rattle.nxt_model.specs.Reading.{Memory, HeldList, EachReads, RowReads, Reads, MembersRead, dope_row, leaf_place, u16_in}
+use Rattle.nxt_model.specs.Reading.{Memory, HeldList, EachReads, RowReads, Reads, MembersRead, dope_row, leaf_place}
 use Rattle.nxt_model.proofs.Laws.Values.{items-values}
 
 -- with the flat form of the one, that of all
@@ -67,10 +68,10 @@ row_begun m reads shape_stride (suc r) place stride count v lists old row is rea
     }
 
 -- behind its length all elements of a list are to be added
-pub elements_begin : (m : Memory) (s whole : Shape) (i base stride place number row_place row_stride count : ℕ) (old into : List ℤ) → whole ≡ Array stride s → place ≡ leaf_place m i base → number ≡ u16_in m.bytes place → IsRow m number row_place row_stride count → into ≡ old ++ pos count ∷ [] → (v : Value) (lists : List HeldList) → Reads m i whole base v lists → ElementsToAdd (Reads m (i + 1) s) row_place row_stride count 0 into (old ++ flat v)
+pub elements_begin : (m : Memory) (s whole : Shape) (i base stride place number row_place row_stride count : ℕ) (old into : List ℤ) → whole ≡ Array stride s → place ≡ leaf_place m i base → number ≡ u16_at m.bytes place → IsRow m number row_place row_stride count → into ≡ old ++ pos count ∷ [] → (v : Value) (lists : List HeldList) → Reads m i whole base v lists → ElementsToAdd (Reads m (i + 1) s) row_place row_stride count 0 into (old ++ flat v)
 elements_begin m s whole i base stride place number row_place row_stride count old into is p n row more v lists read =
     let there : Reads m i (Array stride s) base v lists = subst (λ w. Reads m i w base v lists) is read in
-    let named : u16_in m.bytes (leaf_place m i base) ≡ number = sym (n ∙ ap (u16_in m.bytes) p) in
+    let named : u16_at m.bytes (leaf_place m i base) ≡ number = sym (n ∙ ap (u16_at m.bytes) p) in
     subst
     (λ zs. ElementsToAdd (Reads m (i + 1) s) row_place row_stride count 0 zs (old ++ flat v))
     (sym more)

@@ -5,6 +5,7 @@ use Rattle.std.specs.List.{list_all}
 use Rattle.std.proofs.Math.Nat.{le-max_left, le-max_right}
 use Rattle.std.proofs.lemmas.Bool.{and_parts, and_from, cases_lt}
 use Rattle.std.proofs.lemmas.List.{length-replicate}
+use Rattle.nxt_types.specs.Bytes.{u16_at}
 use Rattle.nxt_types.specs.Names.{size, sizes}
 use Rattle.nxt_types.specs.Shapes.{Shape, Void, Number, Array, Cluster, Mutex, Members, no_members, member, members, tree, some_list, SpellsAll}
 use Rattle.nxt_types.specs.declared.shape.Shape as seen
@@ -13,7 +14,7 @@ use Rattle.nxt_rxe.specs.declared.parts.Parts.{Parts}
 use Rattle.nxt_model.specs.Values.{Value, GroupOf, values, items, elements, flats, is_of, are_of, lists_in}
 use Rattle.nxt_model.specs.Footprint.{footprint, rows_for}
 use Rattle.nxt_types.specs.Pool.{round4, pool_size}
-use Rattle.nxt_model.specs.Reading.{Memory, HeldList, EachReads, RowReads, Reads, MembersRead, ReadsAs, leaf_place, row_count, u16_in}
+use Rattle.nxt_model.specs.Reading.{Memory, HeldList, EachReads, RowReads, Reads, MembersRead, ReadsAs, leaf_place, row_count}
 use Rattle.nxt_model.proofs.Laws.Values.{items-values}
 use Rattle.nxt_layout.specs.declared.fault.LayoutFault.TheVariants.{RowZero, PoolPassed}
 use Rattle.nxt_layout.specs.Start.{memory, ground, stride_of, HasShapes, StartsAs, file_rows, start_footprint}
@@ -25,11 +26,11 @@ use Rattle.nxt_table.proofs.Laws.StrideFree.{size_of_table}
 use Rattle.nxt_layout.proofs.Laws.Rows.{same_rows}
 use Rattle.nxt_heap.specs.Lists.{Lists, zero_heap}
 use Rattle.nxt_space.specs.Inside.Starts.{memory_of}
-use Rattle.nxt_model.specs.Spots.{HasSpots}
+use Rattle.nxt_model.specs.Spans.{HasSpans}
 use Rattle.nxt_values.specs.Sizes.{IsCountable, size_of_all_filled}
 use Rattle.nxt_space.specs.Inside.Kept.{values_of, variables_in, started_as, rows_with, Stores, CanStart, IsKept}
 use Rattle.nxt_space.specs.Variables.{Variables, at_start}
-use Rattle.nxt_layout.proofs.Laws.Spots.{accepted_spots}
+use Rattle.nxt_layout.proofs.Laws.Spans.{accepted_spans}
 use Rattle.nxt_values.proofs.Laws.Begun.{none_alive}
 use Rattle.nxt_values.proofs.Laws.Filled.{all_own}
 use Rattle.nxt_model.proofs.Laws.Numbers.{number_of_kind}
@@ -55,7 +56,7 @@ mutual
   read_of m i (Array stride s) base v ls e =
       ap (is_of (Array stride s)) e.1
       ∙ ap (list_all (is_of s)) (items-values (elements v))
-      ∙ row_of m (Reads m (i + 1) s) (is_of s) (read_of m (i + 1) s) stride (u16_in m.bytes (leaf_place m i base)) (elements v) ls e.2
+      ∙ row_of m (Reads m (i + 1) s) (is_of s) (read_of m (i + 1) s) stride (u16_at m.bytes (leaf_place m i base)) (elements v) ls e.2
   read_of m i (Cluster ss) base v ls e =
       ap (is_of (Cluster ss)) e.0
       ∙ ap (are_of ss) (items-values (elements v))
@@ -79,9 +80,9 @@ read_back m ss vars ls e =
 
 -- ---- what an accepted file's layout tells
 
--- the leaves have their spots, there is a row, the dataspace reads as the values, and the pool holds them
+-- the leaves have their spans, there is a row, the dataspace reads as the values, and the pool holds them
 record Begins (l : FileLayout) (vars : Value) : Type 0 where
-  spots : HasSpots l.entries l.shapes l.static_size
+  spans : HasSpans l.entries l.shapes l.static_size
   some : 1 ≤ l.rows
   lists : List HeldList
   reads : ReadsAs (memory_of l) l.shapes vars lists
@@ -127,7 +128,7 @@ begins p l made =
     let vars = made.vars in
     let starts = made.starts in
     let told : Begins (layout_of p ss vars) vars = record {
-      spots = accepted_spots p ss made.accepted starts.shapes;
+      spans = accepted_spans p ss made.accepted starts.shapes;
       some = rows_some p ss (made.accepted RowZero) starts.shapes;
       lists = starts.lists;
       reads = starts.reads;
@@ -169,11 +170,11 @@ started {toc} {ss} {start} p l made table shapes told =
     shapes
     (ap (started_as ss) (told made.vars b.lists reads) ∙ read_back m ss made.vars b.lists reads)
 
--- the table has the spots of the variables that the numbers spell, and the pool holds them
+-- the table has the spans of the variables that the numbers spell, and the pool holds them
 pub record Starting (toc : Table) (static_size rows : ℕ) (start : List ℤ) : Type 0 where
   pub entries : length toc.entries < 2 ^ 16
   pub spelled : SpellsAll toc.entries toc.shapes
-  pub spots : HasSpots toc.entries toc.shapes static_size
+  pub spans : HasSpans toc.entries toc.shapes static_size
   pub some : 1 ≤ rows
   pub fits : footprint static_size (rows_for rows (lists_in (started_as toc.shapes start))) toc.shapes (started_as toc.shapes start) ≤ pool_size
 
@@ -185,7 +186,7 @@ starting {t} {toc} {ss} {start} l file same few table shapes told =
     record {
       entries = subst (λ (u : Table). length u.entries < 2 ^ 16) same few;
       spelled = subst (λ (u : Table). SpellsAll u.entries u.shapes) (sym table) b.reads.spelled;
-      spots = subst (λ (u : Table). HasSpots u.entries u.shapes l.static_size) (sym table) b.spots;
+      spans = subst (λ (u : Table). HasSpans u.entries u.shapes l.static_size) (sym table) b.spans;
       some = b.some;
       fits = subst
           (λ v. footprint l.static_size (rows_for l.rows (lists_in v)) toc.shapes v ≤ pool_size)
@@ -209,6 +210,25 @@ table_fits {toc} {static_size} {rows} {start} e =
     let fits : footprint static_size (max rows (lists_in vars + 1)) toc.shapes vars ≤ pool_size = e.fits in
     omega (arith, fits, le-max_left rows (lists_in vars + 1))
 
+pub few_lists : {toc : Table} {static_size rows n : ℕ} {start : List ℤ} → Starting toc static_size rows start → n ≡ lists_in (started_as toc.shapes start) → n + 1 < 2 ^ 16
+few_lists {toc} {static_size} {rows} {n} {start} e lists =
+    let vars = started_as toc.shapes start in
+    let fits : footprint static_size (max rows (lists_in vars + 1)) toc.shapes vars ≤ pool_size = e.fits in
+    omega (arith, fits, lists, le-max_right rows (lists_in vars + 1))
+
+-- they start with the rows of the start as they do with the file's
+pub with_rows : {toc : Table} {static_size rows n many : ℕ} {start : List ℤ} → Starting toc static_size rows start → n ≡ lists_in (started_as toc.shapes start) → many ≡ rows_for rows n → Starting toc static_size many start
+with_rows {toc} {static_size} {rows} {n} {many} {start} e lists rows_are =
+    let vars = started_as toc.shapes start in
+    let same : rows_for many (lists_in vars) ≡ rows_for rows (lists_in vars) = omega (arith, lists, rows_are) in
+    record {
+      entries = e.entries;
+      spelled = e.spelled;
+      spans = e.spans;
+      some = omega (arith, rows_are);
+      fits = subst (λ k. footprint static_size k toc.shapes vars ≤ pool_size) (sym same) e.fits;
+    }
+
 -- the heap is the one of the start
 pub same_heap : {h : Lists} {m n static_size rows : ℕ} → h ≡ zero_heap m n → m ≡ static_size → n ≡ rows → h ≡ zero_heap static_size rows
 same_heap e long many = e ∙ ap₂ zero_heap long many
@@ -223,7 +243,7 @@ can_start {toc} {static_size} {rows} {start} {zs} {ss} e shapes heap numbers =
       entries = e.entries;
       variables = shapes;
       spelled = e.spelled;
-      spots = subst (HasSpots toc.entries toc.shapes) (sym long) e.spots;
+      spans = subst (HasSpans toc.entries toc.shapes) (sym long) e.spans;
       empty = none_alive static_size rows;
       fits = subst
           (λ k. footprint k (max n (lists_in vars + 1)) toc.shapes vars ≤ pool_size)
@@ -265,16 +285,17 @@ seen_at toc static_size start vars start_rows rows =
     }
 
 -- these are the variables at the start
-pub start_seen : {toc : Table} {h g : Lists} {start zs : List ℤ} {vars : Value} {at : ℕ} (l : FileLayout) → toc ≡ table_of l → started_as toc.shapes start ≡ vars → h ≡ zero_heap l.static_size l.rows → zs ≡ start → Stores toc h g (started_as toc.shapes zs) → at ≡ length g.by_row → variables_in toc g start at ≡ at_start l vars
-start_seen {toc} {h} {g} {start} {zs} {vars} {at} l table is heap numbers stores rows =
+pub start_seen : {toc : Table} {h g : Lists} {start zs : List ℤ} {vars : Value} {at many : ℕ} (l : FileLayout) → toc ≡ table_of l → started_as toc.shapes start ≡ vars → h ≡ zero_heap l.static_size many → many ≡ rows_for l.rows (lists_in vars) → zs ≡ start → Stores toc h g (started_as toc.shapes zs) → at ≡ length g.by_row → variables_in toc g start at ≡ at_start l vars
+start_seen {toc} {h} {g} {start} {zs} {vars} {at} {many} l table is heap for numbers stores rows =
     let now : started_as toc.shapes zs ≡ vars = ap (started_as toc.shapes) numbers ∙ is in
     let long : length g.static_bytes ≡ l.static_size =
     stores.long ∙ ap (λ (k : Lists). length k.static_bytes) heap ∙ length-replicate l.static_size 0
     in
-    let had : length h.by_row ≡ l.rows = ap (λ (k : Lists). length k.by_row) heap ∙ length-replicate l.rows None in
-    let many : length g.by_row ≡ rows_for l.rows (lists_in vars) =
+    let had : length h.by_row ≡ many = ap (λ (k : Lists). length k.by_row) heap ∙ length-replicate many None in
+    let have : length g.by_row ≡ max many (lists_in vars + 1) =
     stores.rows ∙ ap₂ (λ (n k : ℕ). max n (k + 1)) had (ap lists_in now)
     in
+    let all : length g.by_row ≡ rows_for l.rows (lists_in vars) = omega (arith, have, for) in
     ap₂ (λ t n. seen_at t n (started_as toc.shapes start) (values_of toc g) at (length g.by_row)) table long
     ∙ ap₂ (λ v w. seen_at (table_of l) l.static_size v w at (length g.by_row)) is (stores.values ∙ now)
-    ∙ ap₂ (seen_at (table_of l) l.static_size vars vars) (rows ∙ many) many
+    ∙ ap₂ (seen_at (table_of l) l.static_size vars vars) (rows ∙ all) all

@@ -6,16 +6,16 @@ use Rattle.nxt_types.specs.Tables.{Table}
 use Rattle.nxt_model.specs.Values.{Value, GroupOf, lists_in}
 use Rattle.nxt_model.specs.Footprint.{footprint}
 use Rattle.nxt_types.specs.Pool.{round4, pool_size}
-use Rattle.nxt_heap.specs.Lists.{Lists, list_at, IsAlive}
+use Rattle.nxt_heap.specs.Lists.{Lists, HeapViews, list_at, IsAlive}
 use Rattle.nxt_heap.specs.Lists as heap
 use Rattle.nxt_values.specs.Held.{values_in, IsHeld}
-use Rattle.nxt_values.specs.Homes.{IsHome, HoldsThere, value_there}
+use Rattle.nxt_values.specs.Regions.{IsRegion, HoldsThere, value_there}
 use Rattle.nxt_values.specs.Sizes.{IsCountable, size_there}
-use Rattle.nxt_model.specs.Spots.{HasSpots}
+use Rattle.nxt_model.specs.Spans.{HasSpans}
 use Rattle.nxt_values.specs.declared.reading.Place.{Place}
 use Rattle.nxt_values.specs.declared.sizing.Size.{Size}
 use Rattle.nxt_values.specs.Fills.{filled, all_filled, RoomThere}
-use Rattle.nxt_space.specs.Variables.{Variables, shape_by, value_by, with_by}
+use Rattle.nxt_space.specs.Variables.{Variables, SpaceViews, shape_by, value_by, with_by}
 
 -- the variables of these shapes whose flat forms the numbers are
 abbrev pub started_as : Members → List ℤ → Value
@@ -33,6 +33,10 @@ variables_in toc h start start_rows =
       values = values_in toc.entries toc.shapes h;
       rows = length h.by_row;
     }
+
+-- both views of them
+abbrev pub views_in : Table → HeapViews → List ℤ → ℕ → SpaceViews
+views_in toc h start start_rows = record { vars = variables_in toc h.lists start start_rows; pool = h.pool }
 
 -- ---- variables in a heap
 
@@ -60,7 +64,7 @@ bytes_with toc h vars = footprint (length h.static_bytes) (rows_with h vars) toc
 -- the heap holds the variables
 pub record Stand (toc : Table) (h : Lists) : Type 0 where
   pub entries : length toc.entries < 2 ^ 16
-  pub spots : HasSpots toc.entries toc.shapes (length h.static_bytes)
+  pub spans : HasSpans toc.entries toc.shapes (length h.static_bytes)
   pub held : IsHeld toc.entries toc.shapes h
   pub first : list_at h 0 ≡ None
   pub pool : heap.footprint h ≤ pool_size
@@ -77,7 +81,7 @@ pub record CanStart (toc : Table) (ss : Members) (h : Lists) (start : List ℤ) 
   pub entries : length toc.entries < 2 ^ 16
   pub variables : ss ≡ toc.shapes
   pub spelled : SpellsAll toc.entries toc.shapes
-  pub spots : HasSpots toc.entries toc.shapes (length h.static_bytes)
+  pub spans : HasSpans toc.entries toc.shapes (length h.static_bytes)
   pub empty : (row : ℕ) → IsAlive h row → ⊥
   pub fits : bytes_with toc h (started_as toc.shapes start) ≤ pool_size
 
@@ -92,7 +96,7 @@ pub record IsKept (toc : Table) (ss : Members) (h : Lists) (start : List ℤ) (a
 
 -- a value of the shape stands at a place
 pub record IsThere (toc : Table) (h : Lists) (s : Shape) (at : Place) : Type 0 where
-  pub home : IsHome h at.home
+  pub region : IsRegion h at.region
   pub entries : at.entry + size s < 2 ^ 16
   pub holds : HoldsThere toc.entries h s at
 

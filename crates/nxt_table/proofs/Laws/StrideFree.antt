@@ -7,7 +7,8 @@ use Rattle.nxt_types.specs.Names.{size, sizes, is_leaf}
 use Rattle.nxt_types.specs.declared.shape.TocEntry.{TocEntry}
 use Rattle.nxt_rxe.specs.declared.parts.Parts.{Parts}
 use Rattle.nxt_table.specs.Leaves.{Site, site, sites, sites_in, sites_among, Leaf, leaf_at, leaves, width, bytes_of_leaf, is_mutex}
-use Rattle.nxt_table.specs.Dataspace.{default_place, default_end, put_at, set_leaves, static_bytes, dynamic_bytes, dataspace}
+use Rattle.nxt_table.specs.Dataspace.{default_place, default_end, set_leaves, static_bytes, dynamic_bytes, dataspace}
+use Rattle.nxt_facts.specs.PutAt.{put_at}
 use Rattle.nxt_table.specs.Strides.{with_strides, all_with_strides}
 use Rattle.nxt_table.proofs.Laws.Leaves.{leaf_here}
 use Rattle.nxt_table.proofs.Entries.Variables.{length-spellings}

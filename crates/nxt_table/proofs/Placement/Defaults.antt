@@ -7,7 +7,8 @@ use Rattle.std.proofs.lemmas.Bool.{and_right}
 use Rattle.nxt_rxe.specs.declared.parts.Parts.{Parts}
 use Rattle.nxt_types.specs.Shapes.{Shape, Void, Number, Array, Cluster, Mutex}
 use Rattle.nxt_table.specs.Leaves.{Leaf, width, is_mutex}
-use Rattle.nxt_table.specs.Dataspace.{default_place, default_end, put_at, set_leaves}
+use Rattle.nxt_table.specs.Dataspace.{default_place, default_end, set_leaves}
+use Rattle.nxt_facts.specs.PutAt.{put_at}
 use Rattle.nxt_table.specs.TableRules.{lacks_default}
 use Rattle.nxt_table.specs.Inside.LeafPasses.{lacking_from, filled_from, width_of, is_mutex_leaf, is_mutex_item}
 use Rattle.nxt_table.proofs.Laws.Leaves.{flat, flat_width, item_of_shape, Rising, first_entry}

@@ -7,7 +7,7 @@ use Rattle.nxt_table.specs.declared.item.Item.TheVariants.{Void, Number, Array, 
 use Rattle.nxt_table.specs.declared.enclosing.NestedEntry.{NestedEntry}
 use Rattle.nxt_table.specs.declared.leaves.PlacedLeaf.{PlacedLeaf}
 use Rattle.nxt_table.specs.Inside.Items.{item}
-use Rattle.nxt_table.specs.Dataspace.{put_at}
+use Rattle.nxt_facts.specs.PutAt.{put_at}
 
 -- ---- leaves
 

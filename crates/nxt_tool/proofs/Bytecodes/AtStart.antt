@@ -17,9 +17,9 @@ three = replicate 3 (replicate 15 (pos 0))
 abbrev first_with : Variables → Value → ℕ → ℕ → State
 first_with s vars rows place = state_of (record s { values = vars; rows = rows }) three 0 place 0 None
 
-pub start_held : (p : Program) → IsAtStart p → held (image_in p) (state_of p.space three 0 0 0 None) ≡ held (image_in p) (first_state (program_of (image_in p)))
+pub start_held : (p : Program) → IsAtStart p → held (image_in p) (state_of p.space.vars three 0 0 0 None) ≡ held (image_in p) (first_state (program_of (image_in p)))
 start_held p at =
-    let s : Variables = p.space in
+    let s : Variables = p.space.vars in
     let rows : s.rows ≡ max s.start_rows (lists_in s.start + 1) = omega (arith, at.rows, at.enough) in
     ap (λ v. held (image_in p) (first_with s v s.rows 0)) at.values
     ∙ ap (λ n. held (image_in p) (first_with s s.start n 0)) rows

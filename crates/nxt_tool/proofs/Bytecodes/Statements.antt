@@ -1,9 +1,8 @@
 -- The statements of programs that run.
-use Rattle.std.proofs.Common.{◌≡◌, ℕ, zero, suc, ◌+◌, Bool, true, false, cond, ◌&&◌, ◌||◌, List, [], ◌∷◌, map, Some, refl, sym, ap, ap₂, ◌∙◌, subst}
-use Rattle.std.specs.Prelude.{slice_get, slice_range, count_by, nat_lt}
+use Rattle.std.proofs.Common.{◌≡◌, ℕ, zero, suc, ◌+◌, Bool, true, false, ◌&&◌, ◌||◌, List, [], ◌∷◌, map, Some, refl, sym, ap, ap₂, ◌∙◌, subst}
+use Rattle.std.specs.Prelude.{slice_get, slice_range}
 use Rattle.std.specs.List.{list_all}
 use Rattle.std.proofs.lemmas.Bool.{and_parts}
-use Rattle.std.proofs.lemmas.List.Sums.{sum_by-cons}
 use Rattle.nxt_types.specs.Opcodes.{arity}
 use Rattle.nxt_types.specs.Shapes.{Members}
 use Rattle.nxt_types.specs.Statements.{Statement, statement, statements, statement_of, args_of}

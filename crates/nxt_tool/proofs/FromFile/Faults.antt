@@ -1,5 +1,5 @@
 -- A fault on the way from a file to its program has its cause.
-use Rattle.std.proofs.Common.{◌≡◌, ◌⊎◌, ℕ, Bool, true, List, inl, inr, Ok, Err, Result, subst, sym}
+use Rattle.std.proofs.Common.{◌≡◌, ◌⊎◌, ℕ, List, inl, inr, Ok, Err, Result, subst, sym}
 use Rattle.std.specs.Prelude.{IsErrAnd, MatchResult}
 use Rattle.nxt_types.specs.Refusals.{IsRefusal, IsAccepted}
 use Rattle.nxt_types.specs.Shapes.{Members}

@@ -24,10 +24,7 @@ use Rattle.nxt_rxe.specs.FileRules.{Broken, rank}
 use Rattle.nxt_rxe.proofs.Laws.{file_or_refusal}
 use Rattle.nxt_layout.specs.declared.fault.LayoutFault.{LayoutFault}
 use Rattle.nxt_layout.specs.LayoutRules as layout_rules
-use Rattle.nxt_table.specs.declared.fault.TableFault.TheVariants.{Place}
-use Rattle.nxt_layout.specs.declared.fault.LayoutFault.TheVariants.{Table, RowIndex, RowShared, Stride, RowPlace, RowOverlap}
-use Rattle.nxt_layout.specs.Start.{ground, HasShapes, StartsAs, start_footprint}
-use Rattle.nxt_model.specs.Values.{Value, group_of}
+use Rattle.nxt_layout.specs.Start.{HasShapes, start_footprint}
 use Rattle.nxt_layout.proofs.Laws.Decided.{layout_or_refusal}
 use Rattle.nxt_code.specs.declared.fault.CodeFault.{CodeFault}
 use Rattle.nxt_code.specs.CodeRules as code_rules

@@ -52,8 +52,8 @@ fn is_storable(toc: &Toc, i: u16, flat: &Flat) -> bool
 
 // Whether each position is one of the list's to which those before it lead.
 fn has_part(alloc: Global, toc: &Toc, space: &Space, path: &Path) -> Result<bool, Fail>
-    requires { toc.now.shapes ≡ space.now.shapes }
-    ensures { IfOk result (λ yes. IsTrue yes → HasPart space.now path.now) }
+    requires { toc.now.shapes ≡ space.now.vars.shapes }
+    ensures { IfOk result (λ yes. IsTrue yes → HasPart space.now.vars path.now) }
 {
     let Some(shape) = toc.shape(path.var) else {
         return Ok(false);
@@ -77,8 +77,8 @@ fn has_part(alloc: Global, toc: &Toc, space: &Space, path: &Path) -> Result<bool
 }
 
 pub fn set(rt: &impl Abort, toc: &Toc, space: &mut Space, i: u16, x: i64)
-    requires { toc.now.shapes ≡ space.old.shapes }
-    ensures { space.new.shapes ≡ space.old.shapes }
+    requires { toc.now.shapes ≡ space.old.vars.shapes }
+    ensures { space.new.vars.shapes ≡ space.old.vars.shapes }
 {
     let number = has_number(toc, i);
     assert!(rt; number);
@@ -92,7 +92,7 @@ pub fn length(
     space: &Space,
     path: &Path,
 ) -> Result<u32, Fail>
-    requires { toc.now.shapes ≡ space.now.shapes }
+    requires { toc.now.shapes ≡ space.now.vars.shapes }
 {
     let part = has_part(alloc, toc, space, path)?;
     assert!(rt; part);
@@ -107,7 +107,7 @@ pub fn gather(
     path: &Path,
     into: &mut Flat,
 ) -> Result<(), Fail>
-    requires { toc.now.shapes ≡ space.now.shapes }
+    requires { toc.now.shapes ≡ space.now.vars.shapes }
 {
     let part = has_part(alloc, toc, space, path)?;
     assert!(rt; part);
@@ -123,7 +123,7 @@ pub fn room(
     bytes: u64,
     lists: u64,
 ) -> Result<(), PoolPassed>
-    requires { toc.now.shapes ≡ space.now.shapes }
+    requires { toc.now.shapes ≡ space.now.vars.shapes }
 {
     let named = has_name(toc, i);
     assert!(rt; named);
@@ -139,8 +139,8 @@ pub fn store(
     i: u16,
     flat: &Flat,
 ) -> Result<(), PoolPassed>
-    requires { toc.now.shapes ≡ space.old.shapes }
-    ensures { space.new.shapes ≡ space.old.shapes }
+    requires { toc.now.shapes ≡ space.old.vars.shapes }
+    ensures { space.new.vars.shapes ≡ space.old.vars.shapes }
 {
     let storable = is_storable(toc, i, flat);
     assert!(rt; storable);
@@ -155,7 +155,7 @@ pub fn lent(
     space: &Space,
     i: u16,
 ) -> Result<Vec<u8>, Fail>
-    requires { toc.now.shapes ≡ space.now.shapes }
+    requires { toc.now.shapes ≡ space.now.vars.shapes }
 {
     let bytes = has_bytes(toc, i);
     assert!(rt; bytes);

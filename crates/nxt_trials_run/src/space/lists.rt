@@ -72,7 +72,7 @@ fn expect_bytes(
     space: &Space,
     bytes: &[u8],
 ) -> Result<(), Fail>
-    requires { toc.now.shapes ≡ space.now.shapes }
+    requires { toc.now.shapes ≡ space.now.vars.shapes }
 {
     let found = lent(rt, alloc, toc, space, 0)?;
     assert_eq!(rt; found.as_slice(), bytes);

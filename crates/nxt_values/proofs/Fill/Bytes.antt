@@ -1,28 +1,28 @@
--- Bytes that are stored in a home.
-use Rattle.std.proofs.Common.{◌≡◌, ℕ, zero, suc, ◌+◌, ◌%◌, ◌^◌, ◌<◌, ◌≤◌, ◌⊎◌, inl, inr, true, List, [], ◌∷◌, ◌++◌, take, drop, set, get_or, length, Option, Some, None, is_some, refl, sym, ap, ap₂, ◌∙◌, subst, arith}
-use Rattle.std.proofs.Math.Seq.{take-length}
-use Rattle.std.proofs.lemmas.List.{length-set, set-get_or, get_or-set_same, get_or-set_other, take_more, length-take-le, drop_more}
-use Rattle.std.proofs.lemmas.Nat.{from_le_bytes-to_le_bytes_2, from_le_bytes-to_le_bytes_4}
+-- Bytes that are stored in a region.
+use Rattle.std.proofs.Common.{◌≡◌, ℕ, zero, suc, ◌+◌, ◌%◌, ◌^◌, ◌<◌, ◌≤◌, ◌⊎◌, inl, inr, true, List, [], ◌∷◌, take, drop, set, get_or, length, Option, Some, None, is_some, refl, sym, ap, ap₂, ◌∙◌, arith}
+use Rattle.std.proofs.lemmas.List.{length-set, set-get_or, get_or-set_same, get_or-set_other, drop_more}
+use Rattle.std.proofs.lemmas.Nat.{from_le_bytes-to_le_bytes_4}
 use Rattle.std.specs.Prelude.{ℤ, pos, negsuc}
 use Rattle.std.specs.Int.{w8, w16, w32, cast_signed, from_le_bytes, to_le_bytes}
-use Rattle.nxt_heap.specs.PutAt.{put_at}
-use Rattle.nxt_heap.proofs.Laws.PutAt.{put_at-none, put_at-more}
+use Rattle.nxt_facts.specs.PutAt.{put_at}
+use Rattle.nxt_facts.proofs.PutAt.{put_at-none, put_at-more}
 use Rattle.nxt_types.specs.Arithmetic.{width_of, leaf_size, word, cut, extend}
+use Rattle.nxt_types.specs.Bytes.{u16_at}
 use Rattle.nxt_types.specs.declared.kind.Kind.{Kind}
 use Rattle.nxt_types.specs.declared.kind.Kind.TheVariants.{Ubyte, Sbyte, Uword, Sword, Ulong, Slong}
+use Rattle.nxt_types.proofs.Laws.Bytes.{u16_at-window}
 use Rattle.nxt_model.specs.Means.Text.{number_in}
-use Rattle.nxt_model.specs.Reading.{u16_in}
 use Rattle.nxt_facts.proofs.Each.{Each, each_then}
 use Rattle.nxt_heap.specs.Lists.{Lists, ByteList, list_at, stride_at, bytes_of, stride_of, with_list, IsAlive}
-use Rattle.nxt_values.specs.Homes.{bytes_in, IsHome}
-use Rattle.nxt_model.specs.Spots.{Spot}
+use Rattle.nxt_values.specs.Regions.{bytes_in, IsRegion}
+use Rattle.nxt_model.specs.Spans.{Span}
 use Rattle.nxt_values.specs.Writes.{with_bytes, put, bytes_of_number}
-use Rattle.nxt_values.specs.declared.reading.Home.{Home}
-use Rattle.nxt_values.specs.declared.reading.Home.TheVariants.{Static, Row}
+use Rattle.nxt_values.specs.declared.reading.Region.{Region}
+use Rattle.nxt_values.specs.declared.reading.Region.TheVariants.{Static, Row}
 use Rattle.nxt_values.proofs.Laws.HeldRows.{alive_within}
 use Rattle.nxt_values.proofs.Hold.Frames.{IsSame, AreSame, set_same}
 
--- ---- homes
+-- ---- regions
 
 pub set_set : {X : Type 0} (xs : List X) (i : ℕ) (a b : X) → set (set xs i a) i b ≡ set xs i b
 set_set [] i a b = refl
@@ -33,8 +33,8 @@ pub some_list : (o : Option ByteList) → is_some o ≡ true → Some (record { 
 some_list None e = let f : ⊥ = cc in absurd f
 some_list (Some l) e = refl
 
--- the home has its own bytes
-pub with_same : (h : Lists) (home : Home) → IsHome h home → with_bytes h home (bytes_in h home) ≡ h
+-- the region has its own bytes
+pub with_same : (h : Lists) (region : Region) → IsRegion h region → with_bytes h region (bytes_in h region) ≡ h
 with_same h Static e = refl
 with_same h (Row row) e =
     ap (λ o. with_list h row o) (some_list (list_at h row) e)
@@ -44,17 +44,17 @@ pub at_row : (h : Lists) (row : ℕ) (l : Option ByteList) → IsAlive h row →
 at_row h row l e = get_or-set_same h.by_row row l None (alive_within h row e)
 
 -- it has the bytes that it was given
-pub bytes_with : (h : Lists) (home : Home) (bytes : List ℕ) → IsHome h home → bytes_in (with_bytes h home bytes) home ≡ bytes
+pub bytes_with : (h : Lists) (region : Region) (bytes : List ℕ) → IsRegion h region → bytes_in (with_bytes h region bytes) region ≡ bytes
 bytes_with h Static bytes e = refl
 bytes_with h (Row row) bytes e =
     ap bytes_of (at_row h row (Some (record { stride = stride_at h row; bytes = bytes })) e)
 
-pub home_with : (h : Lists) (home : Home) (bytes : List ℕ) → IsHome h home → IsHome (with_bytes h home bytes) home
-home_with h Static bytes e = tt
-home_with h (Row row) bytes e =
+pub region_with : (h : Lists) (region : Region) (bytes : List ℕ) → IsRegion h region → IsRegion (with_bytes h region bytes) region
+region_with h Static bytes e = tt
+region_with h (Row row) bytes e =
     ap is_some (at_row h row (Some (record { stride = stride_at h row; bytes = bytes })) e)
 
-pub with_twice : (h : Lists) (home : Home) (xs ys : List ℕ) → IsHome h home → with_bytes (with_bytes h home xs) home ys ≡ with_bytes h home ys
+pub with_twice : (h : Lists) (region : Region) (xs ys : List ℕ) → IsRegion h region → with_bytes (with_bytes h region xs) region ys ≡ with_bytes h region ys
 with_twice h Static xs ys e = refl
 with_twice h (Row row) xs ys e =
     let l : ℕ → List ℕ → Option ByteList = λ stride bytes. Some (record { stride = stride; bytes = bytes }) in
@@ -98,19 +98,19 @@ put_there (b ∷ bs) at xs fits =
     first
     (put_there bs (at + 1) (set xs at b) (omega (arith, fits, length-set xs at b)))
 
--- the spot shares none of n bytes, where its element begins at `base`
-abbrev pub IsBeside : ℕ → ℕ → ℕ → Spot → Type 0
+-- the span shares none of n bytes, where its element begins at `base`
+abbrev pub IsBeside : ℕ → ℕ → ℕ → Span → Type 0
 IsBeside at n base p = (at + n ≤ base + p.place) ⊎ (base + p.place + p.width ≤ at)
 
-beside_same : (bs : List ℕ) (at : ℕ) (xs : List ℕ) (base : ℕ) (p : Spot) → IsBeside at (length bs) base p → IsSame xs (put bs at xs) base p
+beside_same : (bs : List ℕ) (at : ℕ) (xs : List ℕ) (base : ℕ) (p : Span) → IsBeside at (length bs) base p → IsSame xs (put bs at xs) base p
 beside_same [] at xs base p e = refl
 beside_same (b ∷ bs) at xs base p (inl e) =
     beside_same bs (at + 1) (set xs at b) base p (inl (omega (arith, e))) ∙ (set_same xs at b base (p ∷ []) (inl (omega (arith, e)), tt)).0
 beside_same (b ∷ bs) at xs base p (inr e) =
     beside_same bs (at + 1) (set xs at b) base p (inr (omega (arith, e))) ∙ (set_same xs at b base (p ∷ []) (inr e, tt)).0
 
--- spots beside them stay
-pub put_same : (bs : List ℕ) (at : ℕ) (xs : List ℕ) (base : ℕ) (ps : List Spot) → Each (IsBeside at (length bs) base) ps → AreSame xs (put bs at xs) base ps
+-- spans beside them stay
+pub put_same : (bs : List ℕ) (at : ℕ) (xs : List ℕ) (base : ℕ) (ps : List Span) → Each (IsBeside at (length bs) base) ps → AreSame xs (put bs at xs) base ps
 put_same bs at xs base ps e =
     each_then (IsBeside at (length bs) base) (IsSame xs (put bs at xs) base) (λ p beside. beside_same bs at xs base p beside) ps e
 
@@ -145,6 +145,8 @@ number_stored k x at xs fits =
     ∙ number_back k x
 
 -- and so does a row number
-pub row_stored : (row at : ℕ) (xs : List ℕ) → row < 2 ^ 16 → at + 2 ≤ length xs → u16_in (put (to_le_bytes w16 row) at xs) at ≡ row
+pub row_stored : (row at : ℕ) (xs : List ℕ) → row < 2 ^ 16 → at + 2 ≤ length xs → u16_at (put (to_le_bytes w16 row) at xs) at ≡ row
 row_stored row at xs small fits =
-    ap (from_le_bytes w16) (put_there (to_le_bytes w16 row) at xs fits) ∙ from_le_bytes-to_le_bytes_2 row small
+    let bs = to_le_bytes w16 row in
+    let back : u16_at bs 0 ≡ row = omega (arith, small) in
+    u16_at-window (put bs at xs) at ∙ ap (λ window. u16_at window 0) (put_there bs at xs fits) ∙ back

@@ -3,12 +3,12 @@ use Rattle.std.proofs.Common.{◌≡◌, ◌≢◌, ℕ, ◌+◌, inl, inr, Bool
 use Rattle.std.specs.List.{list_any}
 use Rattle.nxt_facts.proofs.Each.{Each, each_then, each_join}
 use Rattle.nxt_heap.specs.Lists.{Lists, ByteList, list_at, bytes_of, stride_of, IsAlive}
-use Rattle.nxt_values.specs.Homes.{bytes_in, IsHome}
-use Rattle.nxt_model.specs.Spots.{Spot}
+use Rattle.nxt_values.specs.Regions.{bytes_in, IsRegion}
+use Rattle.nxt_model.specs.Spans.{Span}
 use Rattle.nxt_values.specs.Writes.{IsOther}
 use Rattle.nxt_values.specs.Fills.{Grows, IsBeside, stride_in}
-use Rattle.nxt_values.specs.declared.reading.Home.{Home}
-use Rattle.nxt_values.specs.declared.reading.Home.TheVariants.{Static, Row}
+use Rattle.nxt_values.specs.declared.reading.Region.{Region}
+use Rattle.nxt_values.specs.declared.reading.Region.TheVariants.{Static, Row}
 use Rattle.nxt_facts.proofs.Pairs.{Across, pair_join}
 use Rattle.nxt_values.proofs.Laws.Without.{Differ}
 
@@ -16,25 +16,25 @@ use Rattle.nxt_values.proofs.Laws.Without.{Differ}
 pub alive_other : (h : Lists) (a b : ℕ) → IsAlive h a → list_at h b ≡ None → a ≢ b
 alive_other h a b alive none same = let f : ⊥ = cc (alive, ap is_some (ap (list_at h) same ∙ none)) in absurd f
 
-pub home_other : (h : Lists) (home : Home) (row : ℕ) → IsHome h home → list_at h row ≡ None → IsOther home row
-home_other h Static row there none = tt
-home_other h (Row q) row there none = alive_other h q row there none
+pub region_other : (h : Lists) (region : Region) (row : ℕ) → IsRegion h region → list_at h row ≡ None → IsOther region row
+region_other h Static row there none = tt
+region_other h (Row q) row there none = alive_other h q row there none
 
-stays_free : (h g : Lists) (home : Home) (row : ℕ) (o : Option ByteList) → list_at h row ≡ o → (IsAlive h row → IsOther home row → list_at g row ≡ list_at h row) → IsHome g home → list_at g row ≡ None → list_at h row ≡ None
-stays_free h g home row None is kept there none = is
+stays_free : (h g : Lists) (region : Region) (row : ℕ) (o : Option ByteList) → list_at h row ≡ o → (IsAlive h row → IsOther region row → list_at g row ≡ list_at h row) → IsRegion g region → list_at g row ≡ None → list_at h row ≡ None
+stays_free h g region row None is kept there none = is
 stays_free h g Static row (Some l) is kept there none = sym (kept (ap is_some is) tt) ∙ none
 stays_free h g (Row q) row (Some l) is kept there none =
     sym (kept (ap is_some is) (alive_other g q row there none)) ∙ none
 
 -- what is free behind a change was free before it
-pub was_free : (h g : Lists) (home : Home) (base : ℕ) (ps : List Spot) (rows : List ℕ) (row : ℕ) → Grows h g home base ps rows → list_at g row ≡ None → list_at h row ≡ None
-was_free h g home base ps rows row e none = stays_free h g home row (list_at h row) refl (e.kept row) e.there none
+pub was_free : (h g : Lists) (region : Region) (base : ℕ) (ps : List Span) (rows : List ℕ) (row : ℕ) → Grows h g region base ps rows → list_at g row ≡ None → list_at h row ≡ None
+was_free h g region base ps rows row e none = stays_free h g region row (list_at h row) refl (e.kept row) e.there none
 
 or_left : (a b c : Bool) → (a || b) ≡ true → (b ≡ true → c ≡ true) → (a || c) ≡ true
 or_left true b c e h = refl
 or_left false b c e h = h e
 
-or_right : (a b : Bool) → b ≡ true → (a || b) ≡ true
+pub or_right : (a b : Bool) → b ≡ true → (a || b) ≡ true
 or_right true b e = refl
 or_right false b e = e
 
@@ -55,9 +55,9 @@ apart_rows g rows others alive free =
     rows
     alive
 
--- the changes of a home one after another
-pub grows_then : (h g f : Lists) (home : Home) (base second whole : ℕ) (ps qs all : List Spot) (rows others : List ℕ) → Grows h g home base ps rows → Grows g f home second qs others → Each (IsAlive g) rows → ((p : Spot) (b : ℕ) → Each (IsBeside whole b p) all → Each (IsBeside base b p) ps × Each (IsBeside second b p) qs) → Grows h f home whole all (rows ++ others)
-grows_then h g f home base second whole ps qs all rows others e k alive beside =
+-- the changes of a region one after another
+pub grows_then : (h g f : Lists) (region : Region) (base second whole : ℕ) (ps qs all : List Span) (rows others : List ℕ) → Grows h g region base ps rows → Grows g f region second qs others → Each (IsAlive g) rows → ((p : Span) (b : ℕ) → Each (IsBeside whole b p) all → Each (IsBeside base b p) ps × Each (IsBeside second b p) qs) → Grows h f region whole all (rows ++ others)
+grows_then h g f region base second whole ps qs all rows others e k alive beside =
     record {
       there = k.there;
       long = k.long ∙ e.long;
@@ -71,7 +71,7 @@ grows_then h g f home base second whole ps qs all rows others e k alive beside =
           rows
           others
           e.fresh
-          (each_then (λ r. list_at g r ≡ None) (λ r. list_at h r ≡ None) (λ r none. was_free h g home base ps rows r e none) others k.fresh);
+          (each_then (λ r. list_at g r ≡ None) (λ r. list_at h r ≡ None) (λ r none. was_free h g region base ps rows r e none) others k.fresh);
       named = λ row a.
           elim (k.named row a) [
             | inl before ↦ elim (e.named row before) [
@@ -84,16 +84,16 @@ grows_then h g f home base second whole ps qs all rows others e k alive beside =
 
 -- ---- the change of a list that was taken
 
-pub home_bytes : (g f : Lists) (home : Home) (row : ℕ) → IsHome g home → IsOther home row → f.static_bytes ≡ g.static_bytes → ((r : ℕ) → IsAlive g r → row ≢ r → list_at f r ≡ list_at g r) → IsHome f home × (bytes_in f home ≡ bytes_in g home) × (stride_in f home ≡ stride_in g home)
-home_bytes g f Static row there other static kept = (tt, static, refl)
-home_bytes g f (Row q) row there other static kept =
+pub region_bytes : (g f : Lists) (region : Region) (row : ℕ) → IsRegion g region → IsOther region row → f.static_bytes ≡ g.static_bytes → ((r : ℕ) → IsAlive g r → row ≢ r → list_at f r ≡ list_at g r) → IsRegion f region × (bytes_in f region ≡ bytes_in g region) × (stride_in f region ≡ stride_in g region)
+region_bytes g f Static row there other static kept = (tt, static, refl)
+region_bytes g f (Row q) row there other static kept =
     let same = kept q there (λ e. other (sym e)) in (ap is_some same ∙ there, ap bytes_of same, ap stride_of same)
 
--- a row is taken in a home, and then its list changes
-pub grows_inside : (h g f : Lists) (home : Home) (base second : ℕ) (ps qs : List Spot) (row : ℕ) (rows : List ℕ) → IsHome h home → Grows h g home base ps (row ∷ []) → IsAlive g row → Grows g f (Row row) second qs rows → Grows h f home base ps (row ∷ rows) × (bytes_in f home ≡ bytes_in g home)
-grows_inside h g f home base second ps qs row rows there e alive k =
-    let other : IsOther home row = home_other h home row there e.fresh.0 in
-    let same = home_bytes g f home row e.there other (k.static tt) k.kept in (
+-- a row is taken in a region, and then its list changes
+pub grows_inside : (h g f : Lists) (region : Region) (base second : ℕ) (ps qs : List Span) (row : ℕ) (rows : List ℕ) → IsRegion h region → Grows h g region base ps (row ∷ []) → IsAlive g row → Grows g f (Row row) second qs rows → Grows h f region base ps (row ∷ rows) × (bytes_in f region ≡ bytes_in g region)
+grows_inside h g f region base second ps qs row rows there e alive k =
+    let other : IsOther region row = region_other h region row there e.fresh.0 in
+    let same = region_bytes g f region row e.there other (k.static tt) k.kept in (
       record {
         there = same.0;
         long = ap length same.1 ∙ e.long;
@@ -104,7 +104,7 @@ grows_inside h g f home base second ps qs row rows there e alive k =
         own = (each_then (λ r. list_at g r ≡ None) (Differ row) (λ r none. alive_other g row r alive none) rows k.fresh, k.own);
         fresh = (
           e.fresh.0,
-          each_then (λ r. list_at g r ≡ None) (λ r. list_at h r ≡ None) (λ r none. was_free h g home base ps (row ∷ []) r e none) rows k.fresh,
+          each_then (λ r. list_at g r ≡ None) (λ r. list_at h r ≡ None) (λ r none. was_free h g region base ps (row ∷ []) r e none) rows k.fresh,
         );
         named = λ r a.
             elim (k.named r a) [
@@ -120,8 +120,8 @@ grows_inside h g f home base second ps qs row rows there e alive k =
 
 -- ---- no change
 
-pub grows_none : (h : Lists) (home : Home) (base : ℕ) (ps : List Spot) → IsHome h home → Grows h h home base ps []
-grows_none h home base ps there =
+pub grows_none : (h : Lists) (region : Region) (base : ℕ) (ps : List Span) → IsRegion h region → Grows h h region base ps []
+grows_none h region base ps there =
     record {
       there = there;
       long = refl;

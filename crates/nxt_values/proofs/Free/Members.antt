@@ -6,10 +6,10 @@ use Rattle.nxt_types.specs.declared.shape.TocEntry.{TocEntry}
 use Rattle.nxt_types.specs.Pool.{pool_size}
 use Rattle.nxt_facts.proofs.Each.{Each}
 use Rattle.nxt_heap.specs.Lists.{Lists, IsAlive, footprint}
-use Rattle.nxt_values.specs.Homes.{bytes_in, IsHome}
+use Rattle.nxt_values.specs.Regions.{bytes_in, IsRegion}
 use Rattle.nxt_values.specs.Held.{rows_at, rows_among, HoldAll}
 use Rattle.nxt_values.specs.Writes.{without, AreOwn}
-use Rattle.nxt_values.specs.declared.reading.Home.{Home}
+use Rattle.nxt_values.specs.declared.reading.Region.{Region}
 use Rattle.nxt_values.proofs.Free.Elements.{CanFree, can_free, freed_more, are_next}
 
 -- of the members that take so many entries from the first on, these still have their lists; the rows of all are `whole`
@@ -22,14 +22,14 @@ pub record Left (table : List TocEntry) (h : Lists) (bytes : List ℕ) (base fir
   pub both : gone ++ rows_among table h ss entry bytes base ≡ whole
 
 -- the next member can be freed
-pub member_can : (table : List TocEntry) (h g : Lists) (home : Home) (base first all : ℕ) (s : Shape) (ss : Members) (entry : ℕ) (whole : List ℕ) → Left table h (bytes_in h home) base first all (member s ss) entry g whole → footprint h ≤ pool_size → IsHome h home → Each (IsAlive h) whole → AreOwn home whole → CanFree table h g home s entry base
-member_can table h g home base first all s ss entry whole e pool there alive own =
-    let bytes = bytes_in h home in
+pub member_can : (table : List TocEntry) (h g : Lists) (region : Region) (base first all : ℕ) (s : Shape) (ss : Members) (entry : ℕ) (whole : List ℕ) → Left table h (bytes_in h region) base first all (member s ss) entry g whole → footprint h ≤ pool_size → IsRegion h region → Each (IsAlive h) whole → AreOwn region whole → CanFree table h g region s entry base
+member_can table h g region base first all s ss entry whole e pool there alive own =
+    let bytes = bytes_in h region in
     can_free
     table
     h
     g
-    home
+    region
     s
     entry
     base
@@ -40,23 +40,23 @@ member_can table h g home base first all s ss entry whole e pool there alive own
     e.holds.0
     (are_next
     h
-    home
+    region
     e.gone
     (rows_at table h s entry bytes base)
     (rows_among table h ss (entry + size s) bytes base)
     (subst (Each (IsAlive h)) (sym e.both) alive)
-    (subst (AreOwn home) (sym e.both) own))
+    (subst (AreOwn region) (sym e.both) own))
 
 -- and then those behind it are left
-pub member_freed : (table : List TocEntry) (h g f : Lists) (home : Home) (base first all : ℕ) (s : Shape) (ss : Members) (entry : ℕ) (whole : List ℕ) → Left table h (bytes_in h home) base first all (member s ss) entry g whole → CanFree table h g home s entry base → f ≡ without g (rows_at table g s entry (bytes_in g home) base) → Left table h (bytes_in h home) base first all ss (entry + size s) f whole
-member_freed table h g f home base first all s ss entry whole e can gone =
-    let bytes = bytes_in h home in
+pub member_freed : (table : List TocEntry) (h g f : Lists) (region : Region) (base first all : ℕ) (s : Shape) (ss : Members) (entry : ℕ) (whole : List ℕ) → Left table h (bytes_in h region) base first all (member s ss) entry g whole → CanFree table h g region s entry base → f ≡ without g (rows_at table g s entry (bytes_in g region) base) → Left table h (bytes_in h region) base first all ss (entry + size s) f whole
+member_freed table h g f region base first all s ss entry whole e can gone =
+    let bytes = bytes_in h region in
     record {
       behind = omega (arith, e.behind);
       entries = omega (arith, e.entries);
       holds = e.holds.1;
       gone = e.gone ++ rows_at table h s entry bytes base;
-      freed = freed_more table h g f home s entry base e.gone e.freed can gone;
+      freed = freed_more table h g f region s entry base e.gone e.freed can gone;
       both = append_assoc e.gone (rows_at table h s entry bytes base) (rows_among table h ss (entry + size s) bytes base) ∙ e.both;
     }
 

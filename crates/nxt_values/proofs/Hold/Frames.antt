@@ -1,27 +1,28 @@
--- What a value depends on: the bytes in its spots and the lists of its rows.
+-- What a value depends on: the bytes in its spans and the lists of its rows.
 use Rattle.std.proofs.Common.{◌≡◌, ◌≢◌, ℕ, zero, suc, ◌+◌, ◌-◌, ◌*◌, ◌/◌, ◌<◌, ◌≤◌, ◌⊎◌, inl, inr, Bool, true, false, if◌then◌else◌, List, [], ◌∷◌, ◌++◌, map, flat_map, take, drop, set, get_or, length, Option, Some, None, refl, sym, ap, ap₂, ◌∙◌, arith}
-use Rattle.std.specs.Int.{from_le_bytes, w16}
+use Rattle.std.specs.Int.{from_le_bytes}
 use Rattle.std.proofs.lemmas.Bool.{cases_lt}
 use Rattle.std.proofs.lemmas.List.{drop-set-lt, drop-set-add, take-set-le, get_or-set_other, get_or_append_left, get_or-append_right, get_or_past}
 use Rattle.nxt_types.specs.Arithmetic.{width_of, extend}
 use Rattle.nxt_types.specs.Shapes.{Shape, Void, Number, Array, Cluster, Mutex, Members, no_members, member}
 use Rattle.nxt_types.specs.Names.{size}
 use Rattle.nxt_types.specs.declared.shape.TocEntry.{TocEntry}
+use Rattle.nxt_types.proofs.Laws.Bytes.{u16_at-same}
 use Rattle.nxt_model.specs.Values.{Num, list_of, group_of}
 use Rattle.nxt_facts.proofs.Each.{Each, each_from, each_then, each_both, each_apart, each_part}
 use Rattle.nxt_facts.proofs.Places.{length-places}
 use Rattle.nxt_heap.specs.Lists.{Lists, ByteList, list_at, bytes_at, bytes_of, with_list, with_free_row, any_free}
 use Rattle.nxt_values.specs.Held.{row_in, element_starts, value_at, values_among, rows_at, rows_among, HasElements, Holds, HoldAll}
-use Rattle.nxt_model.specs.Spots.{Spot, spots, spots_among}
+use Rattle.nxt_model.specs.Spans.{Span, spans, spans_among}
 use Rattle.nxt_values.proofs.Laws.HeldSizes.{held_elements, elements_fill}
 
 -- ---- what is the same
 
--- the spot holds the same bytes in an element of the new bytes
-abbrev pub IsSame : List ℕ → List ℕ → ℕ → Spot → Type 0
+-- the span holds the same bytes in an element of the new bytes
+abbrev pub IsSame : List ℕ → List ℕ → ℕ → Span → Type 0
 IsSame old new base p = take p.width (drop (base + p.place) new) ≡ take p.width (drop (base + p.place) old)
 
-abbrev pub AreSame : List ℕ → List ℕ → ℕ → List Spot → Type 0
+abbrev pub AreSame : List ℕ → List ℕ → ℕ → List Span → Type 0
 AreSame old new base ps = Each (IsSame old new base) ps
 
 -- the row has the same list, or none as before
@@ -52,7 +53,7 @@ flat_each : {X Y : Type 0} (f g : X → List Y) (xs : List X) → Each (λ x. f 
 flat_each f g [] e = refl
 flat_each f g (x ∷ xs) e = ap₂ (λ y ys. y ++ ys) e.0 (flat_each f g xs e.1)
 
-pub same_bytes : (bytes : List ℕ) (base : ℕ) (ps : List Spot) → AreSame bytes bytes base ps
+pub same_bytes : (bytes : List ℕ) (base : ℕ) (ps : List Span) → AreSame bytes bytes base ps
 same_bytes bytes base ps = each_from (IsSame bytes bytes base) (λ p. refl) ps
 
 -- each element of a list stays
@@ -119,9 +120,9 @@ list_stays table h g s stride i old new base same kept inside long =
 
 -- ---- the law
 
--- a value stays where the bytes in its spots and the lists of its rows do, and no bytes get lost
+-- a value stays where the bytes in its spans and the lists of its rows do, and no bytes get lost
 mutual
-  pub shape_stays : (table : List TocEntry) (h g : Lists) (s : Shape) (i : ℕ) (old new : List ℕ) (base : ℕ) → AreSame old new base (spots table s i) → KeepLists h g (rows_at table h s i old base) → length old ≤ length new → Stays table h g s i old new base
+  pub shape_stays : (table : List TocEntry) (h g : Lists) (s : Shape) (i : ℕ) (old new : List ℕ) (base : ℕ) → AreSame old new base (spans table s i) → KeepLists h g (rows_at table h s i old base) → length old ≤ length new → Stays table h g s i old new base
   shape_stays table h g Void i old new base same kept long =
       record { value = refl; rows = refl; holds = λ e. tt }
   shape_stays table h g (Number k) i old new base same kept long =
@@ -145,12 +146,12 @@ mutual
       old
       new
       base
-      (ap (from_le_bytes w16) same.0)
+      (u16_at-same new old _ _ same.0)
       kept.0
       (each_then
       (λ at. KeepLists h g (rows at))
       (Stays table h g s (i + 1) held held)
-      (λ at k. shape_stays table h g s (i + 1) held held at (same_bytes held at (spots table s (i + 1))) k (omega arith))
+      (λ at k. shape_stays table h g s (i + 1) held held at (same_bytes held at (spans table s (i + 1))) k (omega arith))
       starts
       (each_part (KeepsList h g) rows starts kept.1))
       long
@@ -160,11 +161,11 @@ mutual
   shape_stays table h g Mutex i old new base same kept long =
       record { value = refl; rows = refl; holds = λ e. tt }
 
-  pub members_stay : (table : List TocEntry) (h g : Lists) (ss : Members) (i : ℕ) (old new : List ℕ) (base : ℕ) → AreSame old new base (spots_among table ss i) → KeepLists h g (rows_among table h ss i old base) → length old ≤ length new → AllStay table h g ss i old new base
+  pub members_stay : (table : List TocEntry) (h g : Lists) (ss : Members) (i : ℕ) (old new : List ℕ) (base : ℕ) → AreSame old new base (spans_among table ss i) → KeepLists h g (rows_among table h ss i old base) → length old ≤ length new → AllStay table h g ss i old new base
   members_stay table h g no_members i old new base same kept long =
       record { value = refl; rows = refl; holds = λ e. tt }
   members_stay table h g (member s ss) i old new base same kept long =
-      let two = each_apart (IsSame old new base) (spots table s i) (spots_among table ss (i + size s)) same in
+      let two = each_apart (IsSame old new base) (spans table s i) (spans_among table ss (i + size s)) same in
       let both = each_apart (KeepsList h g) (rows_at table h s i old base) (rows_among table h ss (i + size s) old base) kept in
       let one = shape_stays table h g s i old new base two.0 both.0 long in
       let others = members_stay table h g ss (i + size s) old new base two.1 both.1 long in
@@ -176,11 +177,11 @@ mutual
 
 -- ---- changes that leave it
 
--- a byte outside of the spot, where its element begins at `base`
-abbrev pub IsOutside : ℕ → ℕ → Spot → Type 0
+-- a byte outside of the span, where its element begins at `base`
+abbrev pub IsOutside : ℕ → ℕ → Span → Type 0
 IsOutside at base p = (at < base + p.place) ⊎ (base + p.place + p.width ≤ at)
 
-outside_same : (bytes : List ℕ) (at b base : ℕ) (p : Spot) → IsOutside at base p → IsSame bytes (set bytes at b) base p
+outside_same : (bytes : List ℕ) (at b base : ℕ) (p : Span) → IsOutside at base p → IsSame bytes (set bytes at b) base p
 outside_same bytes at b base p (inl less) = ap (take p.width) (drop-set-lt (base + p.place) bytes at b less)
 outside_same bytes at b base p (inr more) =
     let k = at - (base + p.place) in
@@ -189,8 +190,8 @@ outside_same bytes at b base p (inr more) =
     ∙ ap (take p.width) (drop-set-add (base + p.place) bytes k b)
     ∙ take-set-le p.width (drop (base + p.place) bytes) k b (omega (arith, more))
 
--- the change of a byte outside of the spots
-pub set_same : (bytes : List ℕ) (at b base : ℕ) (ps : List Spot) → Each (IsOutside at base) ps → AreSame bytes (set bytes at b) base ps
+-- the change of a byte outside of the spans
+pub set_same : (bytes : List ℕ) (at b base : ℕ) (ps : List Span) → Each (IsOutside at base) ps → AreSame bytes (set bytes at b) base ps
 set_same bytes at b base ps e =
     each_then (IsOutside at base) (IsSame bytes (set bytes at b) base) (λ p out. outside_same bytes at b base p out) ps e
 

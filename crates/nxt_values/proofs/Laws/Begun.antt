@@ -7,13 +7,13 @@ use Rattle.nxt_model.specs.Values.{GroupOf}
 use Rattle.nxt_facts.proofs.Pairs.{all_pairs}
 use Rattle.nxt_heap.specs.Lists.{Lists, list_at, IsAlive, zero_heap}
 use Rattle.nxt_values.specs.Held.{values_in, rows_among, IsHeld}
-use Rattle.nxt_model.specs.Spots.{HasSpots, FitAll}
+use Rattle.nxt_model.specs.Spans.{HasSpans, FitAll}
 use Rattle.nxt_values.specs.Fills.{all_filled, FillsAll, AllHaveRoom}
-use Rattle.nxt_values.specs.declared.reading.Home.TheVariants.{Static}
+use Rattle.nxt_values.specs.declared.reading.Region.TheVariants.{Static}
 use Rattle.nxt_values.proofs.Laws.Without.{Differ}
 
 -- leaves that are apart and fit have room in the static bytes
-pub variables_room : (table : List TocEntry) (ss : Members) (n : ℕ) → HasSpots table ss n → AllHaveRoom table ss 0 0 n
+pub variables_room : (table : List TocEntry) (ss : Members) (n : ℕ) → HasSpans table ss n → AllHaveRoom table ss 0 0 n
 variables_room table ss n e =
     let all : n ≡ n - 0 = omega arith in
     record { within = omega arith; apart = e.apart; fits = subst (FitAll table ss 0) all e.fit }

@@ -18,7 +18,7 @@ use Rattle.nxt_facts.proofs.Places.{length-places}
 use Rattle.nxt_heap.specs.Lists.{Lists, bytes_at, bytes_of, block_of, list_at, footprint, IsAlive}
 use Rattle.nxt_types.proofs.Laws.Pool.{le-round4}
 use Rattle.nxt_values.specs.Held.{row_in, value_at, rows_at, Holds}
-use Rattle.nxt_values.specs.Homes.{bytes_in, IsHome, HoldsThere, value_there}
+use Rattle.nxt_values.specs.Regions.{bytes_in, IsRegion, HoldsThere, value_there}
 use Rattle.nxt_values.specs.Writes.{rows_there}
 use Rattle.nxt_values.specs.Elements.{AreElements, element_place}
 use Rattle.nxt_values.specs.declared.elements.Elements.{Elements}
@@ -32,7 +32,7 @@ pub kth_place : (P : ℕ → Type 0) (stride n k : ℕ) → Each P (places_from 
 kth_place P stride n k e less =
     let same : 0 + k * stride ≡ k * stride = omega arith in subst P same (each_place P 0 stride n k e less)
 
-nth_place : (at stride n k : ℕ) → k < n → get_or (places_from at stride n) k 0 ≡ at + k * stride
+pub nth_place : (at stride n k : ℕ) → k < n → get_or (places_from at stride n) k 0 ≡ at + k * stride
 nth_place at stride zero k less = absurd (omega (arith, less))
 nth_place at stride (suc n) zero less = omega arith
 nth_place at stride (suc n) (suc k) less =
@@ -45,7 +45,7 @@ block-le None = omega arith
 block-le (Some l) = le-round4 (length l.bytes)
 
 -- a row's list lies in the pool
-row_small : (h : Lists) (row : ℕ) → footprint h ≤ pool_size → length (bytes_at h row) ≤ pool_size
+pub row_small : (h : Lists) (row : ℕ) → footprint h ≤ pool_size → length (bytes_at h row) ≤ pool_size
 row_small h row fits =
     elim (cases_lt row (length h.by_row)) [
       | inl less ↦ omega (arith, block-le (list_at h row), get_or-le-sum_by block_of h.by_row row None less, fits)
@@ -98,7 +98,7 @@ pub record AreHeld (table : List TocEntry) (h : Lists) (s : Shape) (e : Elements
 pub elements_held : {table : List TocEntry} {h : Lists} {stride : ℕ} {list : Place} {e : Elements} {s whole : Shape} → AreElements table h stride list e → whole ≡ Array stride s → HoldsThere table h whole list → AreHeld table h s e
 elements_held {table} {h} {stride} {list} {e} {s} {whole} all is holds =
     let there : HoldsThere table h (Array stride s) list = subst (λ w. HoldsThere table h w list) is holds in
-    let row = row_in table list.entry (bytes_in h list.home) list.base in
+    let row = row_in table list.entry (bytes_in h list.region) list.base in
     subst
     (AreHeld table h s)
     (sym all.is)
@@ -111,7 +111,7 @@ elements_held {table} {h} {stride} {list} {e} {s} {whole} all is holds =
 
 -- a value of the shape stands there, one entry behind the list
 pub record IsElement (table : List TocEntry) (h : Lists) (s : Shape) (list place : Place) : Type 0 where
-  pub home : IsHome h place.home
+  pub region : IsRegion h place.region
   pub entry : place.entry ≡ list.entry + 1
   pub holds : HoldsThere table h s place
 
@@ -122,7 +122,7 @@ element_there {table} {h} {stride} {list} {e} {s} {whole} {k} {place} all is hol
     (IsElement table h s list)
     (sym at)
     (record {
-      home = held.alive;
+      region = held.alive;
       entry = ap (λ (x : Elements). x.entry) all.is;
       holds = kth_place (Holds table h s e.entry (bytes_at h e.row)) e.stride e.count k held.hold less;
     })

@@ -8,7 +8,7 @@ use Rattle.nxt_model.specs.Values.{elements}
 use Rattle.nxt_model.proofs.Laws.Values.{items-values}
 use Rattle.nxt_heap.specs.Lists.{Lists}
 use Rattle.nxt_values.specs.Held.{values_among}
-use Rattle.nxt_values.specs.Homes.{bytes_in, value_there}
+use Rattle.nxt_values.specs.Regions.{bytes_in, value_there}
 use Rattle.nxt_values.specs.declared.reading.Place.{Place}
 
 count_among : (table : List TocEntry) (h : Lists) (ss : List Shape) (i : ℕ) (bytes : List ℕ) (base : ℕ) → length (values_among table h (members ss) i bytes base) ≡ length ss
@@ -18,9 +18,9 @@ count_among table h (s ∷ ss) i bytes base = ap suc (count_among table h ss (i 
 -- a group has as many members as its shape
 pub group_length : (table : List TocEntry) (h : Lists) (ss : List Shape) (whole : Shape) (at : Place) (n : ℕ) → whole ≡ cluster_of ss → n ≡ length ss → n ≡ length (elements (value_there table h whole at))
 group_length table h ss whole at n is counted =
-    let values = values_among table h (members ss) (at.entry + 1) (bytes_in h at.home) at.base in
+    let values = values_among table h (members ss) (at.entry + 1) (bytes_in h at.region) at.base in
     counted
-    ∙ sym (count_among table h ss (at.entry + 1) (bytes_in h at.home) at.base)
+    ∙ sym (count_among table h ss (at.entry + 1) (bytes_in h at.region) at.base)
     ∙ sym (ap length (items-values values))
     ∙ ap (λ w. length (elements (value_there table h w at))) (sym is)
 

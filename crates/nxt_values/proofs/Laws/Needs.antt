@@ -6,14 +6,13 @@ use Rattle.std.proofs.lemmas.List.{length-set}
 use Rattle.std.proofs.lemmas.Nat.{mul-le}
 use Rattle.std.proofs.lemmas.List.Sums.{sum_by-cons, sum_by-append, sum_by-set}
 use Rattle.nxt_types.specs.Pool.{round4, pool_size}
-use Rattle.nxt_heap.specs.Lists.{Lists, ByteList, list_at, stride_at, block_of, with_free, with_free_row, any_free, of_length, IsFree, Passes, footprint}
-use Rattle.nxt_heap.proofs.Laws.Lengths.{length-of_length}
+use Rattle.nxt_heap.specs.Lists.{Lists, ByteList, list_at, stride_at, block_of, with_list, with_free, with_free_row, any_free, IsFree, Passes, footprint}
 use Rattle.nxt_types.proofs.Laws.Pool.{le-round4}
-use Rattle.nxt_values.specs.Homes.{bytes_in, IsHome}
+use Rattle.nxt_values.specs.Regions.{bytes_in, IsRegion}
 use Rattle.nxt_values.specs.Writes.{with_bytes, put}
-use Rattle.nxt_values.specs.Fills.{living, needs, Spends, taken}
-use Rattle.nxt_values.specs.declared.reading.Home.{Home}
-use Rattle.nxt_values.specs.declared.reading.Home.TheVariants.{Static, Row}
+use Rattle.nxt_values.specs.Fills.{living, needs, Spends}
+use Rattle.nxt_values.specs.declared.reading.Region.{Region}
+use Rattle.nxt_values.specs.declared.reading.Region.TheVariants.{Static, Row}
 use Rattle.nxt_values.proofs.Laws.HeldRows.{alive_within}
 use Rattle.nxt_values.proofs.Fill.Bytes.{length-put}
 use Rattle.nxt_values.proofs.Laws.Without.{block_size}
@@ -93,6 +92,10 @@ first_needs h bytes =
 
 -- ---- what is spent
 
+-- the row, which was free, has this list
+abbrev pub taken : Lists → ℕ → ℕ → List ℕ → Lists
+taken h row stride bytes = with_list (with_free_row h) row (Some (record { stride = stride; bytes = bytes }))
+
 pub spends_same : (h g : Lists) (lists bytes more_lists more_bytes : ℕ) → lists ≡ more_lists → bytes ≡ more_bytes → Spends h g lists bytes → Spends h g more_lists more_bytes
 spends_same h g lists bytes more_lists more_bytes e f s =
     subst (λ n. Spends h g n more_bytes) e (subst (Spends h g lists) f s)
@@ -109,9 +112,9 @@ spends_none h m c =
     let b : 0 + c ≡ c = omega arith in
     ap₂ (needs h) a b
 
-pub spends_taken : (h : Lists) (row stride n : ℕ) → IsFree (with_free h.by_row) row → Spends h (taken h row stride n) 1 (round4 n)
-spends_taken h row stride n free m c =
-    let l : Option ByteList = Some (record { stride = stride; bytes = of_length n [] }) in
+pub spends_taken : (h : Lists) (row stride : ℕ) (bytes : List ℕ) → IsFree (with_free h.by_row) row → Spends h (taken h row stride bytes) 1 (round4 (length bytes))
+spends_taken h row stride bytes free m c =
+    let l : Option ByteList = Some (record { stride = stride; bytes = bytes }) in
     let xs = h.by_row in
     let ys = with_free xs in
     let zs = set ys row l in
@@ -120,23 +123,23 @@ spends_taken h row stride n free m c =
     let none : bit (get_or ys row None) ≡ 0 = ap bit free.empty in
     let empty : block_of (get_or ys row None) ≡ 0 = ap block_of free.empty in
     let live : sum_by bit zs + 0 ≡ sum_by bit ys + 1 = omega (arith, sum_by-set bit ys row l None free.within, none) in
-    let held : sum_by block_of zs ≡ sum_by block_of ys + round4 n =
-    omega (arith, sum_by-set block_of ys row l None free.within, empty, ap round4 (length-of_length n [])) in
+    let held : sum_by block_of zs ≡ sum_by block_of ys + round4 (length bytes) =
+    omega (arith, sum_by-set block_of ys row l None free.within, empty) in
     let b : sum_by bit xs + 2 ≤ living h + (1 + m) + 1 = omega arith in
     let first : max (length xs) (living h + (1 + m) + 1) ≡ max (length ys) (living h + (1 + m) + 1) =
     same_max (length xs) (length ys) (living h + (1 + m) + 1) (sum_by bit xs + 2) more.least more.most b in
-    let count : living h + (1 + m) + 1 ≡ living (taken h row stride n) + m + 1 = omega (arith, live, more.living) in
-    let rows : max (length xs) (living h + (1 + m) + 1) ≡ max (length zs) (living (taken h row stride n) + m + 1) =
+    let count : living h + (1 + m) + 1 ≡ living (taken h row stride bytes) + m + 1 = omega (arith, live, more.living) in
+    let rows : max (length xs) (living h + (1 + m) + 1) ≡ max (length zs) (living (taken h row stride bytes) + m + 1) =
     first ∙ ap₂ max (sym long) count in
     omega (arith, ap (λ k. round4 (10 * k)) rows, held, more.blocks)
 
-spends_home : (h : Lists) (home : Home) (bytes : List ℕ) → IsHome h home → length bytes ≡ length (bytes_in h home) → Spends h (with_bytes h home bytes) 0 0
-spends_home h Static bytes there long m c =
+spends_region : (h : Lists) (region : Region) (bytes : List ℕ) → IsRegion h region → length bytes ≡ length (bytes_in h region) → Spends h (with_bytes h region bytes) 0 0
+spends_region h Static bytes there long m c =
     let a : 0 + m ≡ m = omega arith in
     let b : 0 + c ≡ c = omega arith in
     ap₂ (needs h) a b
     ∙ ap (λ n. round4 n + round4 (10 * max (length h.by_row) (living h + m + 1)) + sum_by block_of h.by_row + c) (sym long)
-spends_home h (Row q) bytes there long m c =
+spends_region h (Row q) bytes there long m c =
     let a : 0 + m ≡ m = omega arith in
     let b : 0 + c ≡ c = omega arith in
     let l : Option ByteList = Some (record { stride = stride_at h q; bytes = bytes }) in
@@ -151,20 +154,21 @@ spends_home h (Row q) bytes there long m c =
     ap₂ max (sym size) (ap (λ n. n + m + 1) (sym live)) in
     ap₂ (needs h) a b ∙ omega (arith, ap (λ k. round4 (10 * k)) rows, held)
 
-pub spends_put : (h : Lists) (home : Home) (bs : List ℕ) (at : ℕ) → IsHome h home → Spends h (with_bytes h home (put bs at (bytes_in h home))) 0 0
-spends_put h home bs at there = spends_home h home (put bs at (bytes_in h home)) there (length-put bs at (bytes_in h home))
+pub spends_put : (h : Lists) (region : Region) (bs : List ℕ) (at : ℕ) → IsRegion h region → Spends h (with_bytes h region (put bs at (bytes_in h region))) 0 0
+spends_put h region bs at there = spends_region h region (put bs at (bytes_in h region)) there (length-put bs at (bytes_in h region))
 
 -- ---- what the pool does not hold
 
 pub row_passed : (h : Lists) (f bytes : ℕ) → Passes (with_free_row h) f → pool_size < needs h 1 bytes
 row_passed h f bytes e = omega (arith, e.above, e.whole, first_needs h bytes)
 
-pub list_bytes_passed : (h k : Lists) (row stride n f : ℕ) → IsFree (with_free_row h).by_row row → k ≡ taken h row stride n → Passes k f → pool_size < needs h 1 (round4 n)
-list_bytes_passed h k row stride n f free is e =
-    let t = taken h row stride n in
+pub list_bytes_passed : (h k : Lists) (row stride : ℕ) (bytes : List ℕ) (f : ℕ) → IsFree (with_free_row h).by_row row → k ≡ taken h row stride bytes → Passes k f → pool_size < needs h 1 (round4 (length bytes))
+list_bytes_passed h k row stride bytes f free is e =
+    let t = taken h row stride bytes in
+    let n = length bytes in
     let a : 1 + 0 ≡ 1 = omega arith in
     let b : round4 n + 0 ≡ round4 n = omega arith in
-    let same : needs h 1 (round4 n) ≡ needs t 0 0 = sym (ap₂ (needs h) a b) ∙ spends_taken h row stride n free 0 0 in
+    let same : needs h 1 (round4 n) ≡ needs t 0 0 = sym (ap₂ (needs h) a b) ∙ spends_taken h row stride bytes free 0 0 in
     omega (arith, e.above, e.whole, ap footprint is, footprint_needs t 0 0, same)
 
 -- more elements than the pool has bytes

@@ -12,7 +12,7 @@ use Rattle.nxt_values.specs.Held.{leaf_place, row_in, element_starts, value_at, 
 
 -- ---- values
 
-each_of : (of : Value → Bool) (value : ℕ → Value) → ((base : ℕ) → of (value base) ≡ true) → (places : List ℕ) → list_all of (items (values (map value places))) ≡ true
+pub each_of : (of : Value → Bool) (value : ℕ → Value) → ((base : ℕ) → of (value base) ≡ true) → (places : List ℕ) → list_all of (items (values (map value places))) ≡ true
 each_of of value h [] = refl
 each_of of value h (p ∷ ps) =
     and_from (of (value p)) (list_all of (items (values (map value ps)))) (h p) (each_of of value h ps)

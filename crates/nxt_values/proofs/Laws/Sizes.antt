@@ -1,9 +1,11 @@
 -- Sizes that are added up, member by member and element by element.
-use Rattle.std.proofs.Common.{◌≡◌, ℕ, suc, ◌+◌, ◌-◌, ◌*◌, ◌^◌, ◌<◌, ◌≤◌, List, ◌∷◌, map, drop, length, sum_by, sym, ap, ◌∙◌, subst, arith, suc-mul}
+use Rattle.std.proofs.Common.{◌≡◌, ℕ, zero, suc, ◌+◌, ◌-◌, ◌*◌, ◌^◌, ◌<◌, ◌≤◌, true, List, [], ◌∷◌, map, drop, length, sum_by, refl, sym, ap, ap₂, ◌∙◌, subst, arith, suc-mul}
 use Rattle.std.specs.Prelude.{ℤ, nat_abs}
+use Rattle.std.proofs.Math.Seq.{drop-nil}
 use Rattle.std.proofs.lemmas.List.{length-map}
 use Rattle.std.proofs.lemmas.List.Sums.{sum_by-cons}
-use Rattle.nxt_types.specs.Shapes.{Shape, Array, Cluster, Members, member}
+use Rattle.nxt_types.specs.Shapes.{Shape, Void, Number, Array, Cluster, Mutex, Members, member, is_number}
+use Rattle.nxt_types.specs.declared.kind.Kind.{Kind}
 use Rattle.nxt_types.specs.Names.{sizes}
 use Rattle.nxt_types.specs.declared.shape.TocEntry.{TocEntry}
 use Rattle.nxt_model.specs.Values.{Value, Values, ListOf, values, items, many, lists_among, value}
@@ -14,7 +16,7 @@ use Rattle.nxt_facts.specs.Places.{places_from}
 use Rattle.nxt_facts.proofs.Places.{length-places}
 use Rattle.nxt_heap.specs.Lists.{Lists, bytes_at}
 use Rattle.nxt_values.specs.Held.{value_at, values_among, HoldAll}
-use Rattle.nxt_values.specs.Homes.{value_there}
+use Rattle.nxt_values.specs.Regions.{value_there}
 use Rattle.nxt_values.specs.Fills.{first_of, filled, all_filled}
 use Rattle.nxt_values.specs.Sizes.{IsCountable, size_in, size_there, sizes_there, size_of_filled, size_of_all_filled}
 use Rattle.nxt_values.specs.Elements.{AreElements, element_place}
@@ -89,7 +91,7 @@ member_countable e small =
 -- ---- values that stand in the heap
 
 -- the members of a group are as great as it
-pub group_countable : (table : List TocEntry) (h : Lists) (ss : Members) (whole : Shape) (at : Place) → whole ≡ Cluster ss → IsCountable (size_there table h whole at) → IsCountable (sizes_there table h ss (record { home = at.home; entry = at.entry + 1; base = at.base }))
+pub group_countable : (table : List TocEntry) (h : Lists) (ss : Members) (whole : Shape) (at : Place) → whole ≡ Cluster ss → IsCountable (size_there table h whole at) → IsCountable (sizes_there table h ss (record { region = at.region; entry = at.entry + 1; base = at.base }))
 group_countable table h ss whole at is small =
     let e : IsCountable (size_there table h (Cluster ss) at) = subst (λ w. IsCountable (size_there table h w at)) is small in
     record { lists = e.lists; bytes = e.bytes }
@@ -205,3 +207,66 @@ spelled_added {s} {stride} {count} {k} {inner} {one} {more} {left} {next} {whole
     (λ zs. ElementsSpelled s stride count (k + 1) more zs whole rest)
     (sym behind)
     (record { elements = element_added e.elements is sum; others = e.others })
+
+-- ---- numbers
+
+abbrev pub IsNumber : Shape → Type 0
+IsNumber s = (k : Kind) × (s ≡ Number k)
+
+number_is : (s : Shape) → is_number s ≡ true → IsNumber s
+number_is Void e = let f : ⊥ = cc in absurd f
+number_is (Number k) e = (k, refl)
+number_is (Array stride s) e = let f : ⊥ = cc in absurd f
+number_is (Cluster ss) e = let f : ⊥ = cc in absurd f
+number_is Mutex e = let f : ⊥ = cc in absurd f
+
+-- no list stands in them
+no_bytes : (k : Kind) (vs : List Value) → sum_by (list_bytes (Number k)) vs ≡ 0
+no_bytes k [] = refl
+no_bytes k (v ∷ vs) = omega (arith, sum_by-cons (list_bytes (Number k)) v vs, no_bytes k vs)
+
+no_lists_held : (table : List TocEntry) (h : Lists) (k : Kind) (i : ℕ) (bytes ps : List ℕ) → lists_among (values (map (value_at table h (Number k) i bytes) ps)) ≡ 0
+no_lists_held table h k i bytes [] = refl
+no_lists_held table h k i bytes (p ∷ ps) = omega (arith, no_lists_held table h k i bytes ps)
+
+no_lists_spelled : (k : Kind) (n : ℕ) (zs : List ℤ) → lists_among (many n (filled (Number k)) zs).0 ≡ 0
+no_lists_spelled k zero zs = refl
+no_lists_spelled k (suc n) zs = omega (arith, no_lists_spelled k n (drop 1 zs))
+
+-- so many of them, and those behind
+numbers_behind : (k : Kind) (n : ℕ) (zs : List ℤ) → (many n (filled (Number k)) zs).1 ≡ drop n zs
+numbers_behind k zero zs = refl
+numbers_behind k (suc n) [] = numbers_behind k n [] ∙ drop-nil n ∙ sym (drop-nil (suc n))
+numbers_behind k (suc n) (z ∷ zs) = numbers_behind k n zs
+
+own_size : {s : Shape} {own : ℕ} {vs : Values} {whole : Size} → Counted s own nothing vs whole → lists_among vs ≡ 0 → sum_by (list_bytes s) (items vs) ≡ 0 → record { lists = 0 + 1; bytes = own + 0 } ≡ whole
+own_size {s} {own} {vs} {whole} e none empty =
+    let lists : 0 + 1 ≡ whole.lists = omega (arith, e.lists, none) in
+    let bytes : own + 0 ≡ whole.bytes = omega (arith, e.bytes, empty) in
+    ap₂ (λ l b. record { lists = l; bytes = b }) lists bytes
+
+-- a list of numbers is as great as itself alone
+pub numbers_held : {table : List TocEntry} {h : Lists} {s : Shape} {e : Elements} {whole : Size} → is_number s ≡ true → ElementsHeld table h s e 0 nothing whole → record { lists = 0 + 1; bytes = round4 (e.count * e.stride) + 0 } ≡ whole
+numbers_held {table} {h} {s} {e} {whole} numbers all =
+    let is = number_is s numbers in
+    let left : ElementsHeld table h (Number is.0) e 0 nothing whole = subst (λ w. ElementsHeld table h w e 0 nothing whole) is.1 all in
+    let places = places_from (0 * e.stride) e.stride (e.count - 0) in
+    own_size
+    left.elements
+    (no_lists_held table h is.0 e.entry (bytes_at h e.row) places)
+    (no_bytes is.0 (items (values (map (value_at table h (Number is.0) e.entry (bytes_at h e.row)) places))))
+
+-- and takes as many numbers as it has elements
+pub record NumbersSpelled (own count : ℕ) (left : List ℤ) (whole : Size) (rest : List ℤ) : Type 0 where
+  pub size : record { lists = 0 + 1; bytes = own + 0 } ≡ whole
+  pub others : drop count left ≡ rest
+
+pub numbers_spelled : {s : Shape} {stride count : ℕ} {left : List ℤ} {whole : Size} {rest : List ℤ} → is_number s ≡ true → ElementsSpelled s stride count 0 nothing left whole rest → NumbersSpelled (round4 (count * stride)) count left whole rest
+numbers_spelled {s} {stride} {count} {left} {whole} {rest} numbers all =
+    let is = number_is s numbers in
+    let e : ElementsSpelled (Number is.0) stride count 0 nothing left whole rest = subst (λ w. ElementsSpelled w stride count 0 nothing left whole rest) is.1 all in
+    let n : count ≡ count - 0 = omega arith in
+    record {
+      size = own_size e.elements (no_lists_spelled is.0 (count - 0) left) (no_bytes is.0 (items (many (count - 0) (filled (Number is.0)) left).0));
+      others = ap (λ m. drop m left) n ∙ sym (numbers_behind is.0 (count - 0) left) ∙ e.others;
+    }

@@ -11,10 +11,10 @@ use Rattle.nxt_facts.proofs.Pairs.{all_pairs}
 use Rattle.nxt_heap.specs.Lists.{Lists, ByteList, list_at, with_list, IsAlive}
 use Rattle.nxt_values.specs.Held.{value_at, values_among, values_in, rows_among, HoldAll, IsHeld}
 use Rattle.nxt_facts.specs.Pairs.{EachPair}
-use Rattle.nxt_model.specs.Spots.{HasSpots, spots_among}
+use Rattle.nxt_model.specs.Spans.{HasSpans, spans_among}
 use Rattle.nxt_values.specs.Writes.{without, IsOther}
 use Rattle.nxt_values.specs.Fills.{Fills, filled}
-use Rattle.nxt_values.specs.declared.reading.Home.TheVariants.{Static}
+use Rattle.nxt_values.specs.declared.reading.Region.TheVariants.{Static}
 use Rattle.nxt_facts.proofs.Pairs.{Across, pair_parts, each_pair}
 use Rattle.nxt_values.proofs.Hold.Frames.{KeepsList}
 use Rattle.nxt_values.proofs.Fill.Growing.{apart_rows}
@@ -105,9 +105,9 @@ own_still h before gone fresh after own new free alive living =
 -- a part of the variables is freed and filled
 abbrev Parts : List TocEntry → (ss : Members) → Lists → Lists → (s : Shape) (j : ℕ) → StandsAmong ss 0 s j → Type 0
 Parts table ss h g s j part =
-    Replaced table h g Static 0 s j (spots_among table ss 0) (rows_among table h ss 0 h.static_bytes 0) (rows_among table g ss 0 g.static_bytes 0) (values_among table h ss 0 h.static_bytes 0) (values_among table g ss 0 g.static_bytes 0) (with_value_among table h Static 0 s j ss 0 part)
+    Replaced table h g Static 0 s j (spans_among table ss 0) (rows_among table h ss 0 h.static_bytes 0) (rows_among table g ss 0 g.static_bytes 0) (values_among table h ss 0 h.static_bytes 0) (values_among table g ss 0 g.static_bytes 0) (with_value_among table h Static 0 s j ss 0 part)
 
-replaced : (table : List TocEntry) (ss : Members) (h g : Lists) (s : Shape) (j : ℕ) (zs rest : List ℤ) → IsHeld table ss h → HasSpots table ss (length h.static_bytes) → (part : StandsAmong ss 0 s j) → Fills table (without h (gone_rows table h Static 0 s j)) g s j Static 0 zs rest → HoldAll table g ss 0 g.static_bytes 0 × Parts table ss h g s j part
+replaced : (table : List TocEntry) (ss : Members) (h g : Lists) (s : Shape) (j : ℕ) (zs rest : List ℤ) → IsHeld table ss h → HasSpans table ss (length h.static_bytes) → (part : StandsAmong ss 0 s j) → Fills table (without h (gone_rows table h Static 0 s j)) g s j Static 0 zs rest → HoldAll table g ss 0 g.static_bytes 0 × Parts table ss h g s j part
 replaced table ss h g s j zs rest e room part fills =
     let old = rows_among table h ss 0 h.static_bytes 0 in
     let gone = gone_rows table h Static 0 s j in
@@ -119,18 +119,18 @@ abbrev pub with_part_value : List TocEntry → (ss : Members) → Lists → (s :
 with_part_value table ss h s j part v = group_of (with_value_among table h Static 0 s j ss 0 part v)
 
 -- what the numbers begin with is the part's value, and the other values stay
-pub stored_values : (table : List TocEntry) (ss : Members) (h g : Lists) (s : Shape) (j : ℕ) (zs rest : List ℤ) → IsHeld table ss h → HasSpots table ss (length h.static_bytes) → (part : StandsAmong ss 0 s j) → Fills table (without h (gone_rows table h Static 0 s j)) g s j Static 0 zs rest → values_in table ss g ≡ with_part_value table ss h s j part (filled s zs).0
+pub stored_values : (table : List TocEntry) (ss : Members) (h g : Lists) (s : Shape) (j : ℕ) (zs rest : List ℤ) → IsHeld table ss h → HasSpans table ss (length h.static_bytes) → (part : StandsAmong ss 0 s j) → Fills table (without h (gone_rows table h Static 0 s j)) g s j Static 0 zs rest → values_in table ss g ≡ with_part_value table ss h s j part (filled s zs).0
 stored_values table ss h g s j zs rest e room part fills =
     ap group_of (replaced table ss h g s j zs rest e room part fills).1.value_is
     ∙ ap (with_part_value table ss h s j part) fills.value
 
 -- and where the part's value is the old one, they are the old values
-pub same_values : (table : List TocEntry) (ss : Members) (h g : Lists) (s : Shape) (j : ℕ) (zs rest : List ℤ) → IsHeld table ss h → HasSpots table ss (length h.static_bytes) → (part : StandsAmong ss 0 s j) → Fills table (without h (gone_rows table h Static 0 s j)) g s j Static 0 zs rest → values_in table ss h ≡ with_part_value table ss h s j part (value_at table h s j h.static_bytes 0)
+pub same_values : (table : List TocEntry) (ss : Members) (h g : Lists) (s : Shape) (j : ℕ) (zs rest : List ℤ) → IsHeld table ss h → HasSpans table ss (length h.static_bytes) → (part : StandsAmong ss 0 s j) → Fills table (without h (gone_rows table h Static 0 s j)) g s j Static 0 zs rest → values_in table ss h ≡ with_part_value table ss h s j part (value_at table h s j h.static_bytes 0)
 same_values table ss h g s j zs rest e room part fills =
     ap group_of (replaced table ss h g s j zs rest e room part fills).1.value_was
 
 -- the variables are held again
-pub stored_held : (table : List TocEntry) (ss : Members) (h g : Lists) (s : Shape) (j : ℕ) (zs rest : List ℤ) → IsHeld table ss h → HasSpots table ss (length h.static_bytes) → (part : StandsAmong ss 0 s j) → Fills table (without h (gone_rows table h Static 0 s j)) g s j Static 0 zs rest → IsHeld table ss g
+pub stored_held : (table : List TocEntry) (ss : Members) (h g : Lists) (s : Shape) (j : ℕ) (zs rest : List ℤ) → IsHeld table ss h → HasSpans table ss (length h.static_bytes) → (part : StandsAmong ss 0 s j) → Fills table (without h (gone_rows table h Static 0 s j)) g s j Static 0 zs rest → IsHeld table ss g
 stored_held table ss h g s j zs rest e room part fills =
     let old = rows_among table h ss 0 h.static_bytes 0 in
     let new = rows_among table g ss 0 g.static_bytes 0 in

@@ -9,12 +9,12 @@ use Rattle.nxt_facts.proofs.Each.{Each, each_then, each_both}
 use Rattle.nxt_heap.specs.Lists.{Lists, ByteList, list_at, bytes_of, block_of, with_list, IsAlive, footprint}
 use Rattle.nxt_heap.proofs.Laws.Footprints.{footprint-with_list}
 use Rattle.nxt_values.specs.Held.{rows_at, Holds}
-use Rattle.nxt_values.specs.Homes.{bytes_in, IsHome}
+use Rattle.nxt_values.specs.Regions.{bytes_in, IsRegion}
 use Rattle.nxt_facts.specs.Pairs.{EachPair}
-use Rattle.nxt_model.specs.Spots.{spots}
+use Rattle.nxt_model.specs.Spans.{spans}
 use Rattle.nxt_values.specs.Writes.{without, IsOther}
-use Rattle.nxt_values.specs.declared.reading.Home.{Home}
-use Rattle.nxt_values.specs.declared.reading.Home.TheVariants.{Static, Row}
+use Rattle.nxt_values.specs.declared.reading.Region.{Region}
+use Rattle.nxt_values.specs.declared.reading.Region.TheVariants.{Static, Row}
 use Rattle.nxt_facts.proofs.Pairs.{Across, turned}
 use Rattle.nxt_values.proofs.Hold.Frames.{KeepsList, KeepLists, Stays, shape_stays, same_bytes}
 use Rattle.nxt_values.proofs.Laws.HeldSizes.{row_size}
@@ -38,13 +38,13 @@ pub static_kept : (h : Lists) (rows : List ℕ) → (without h rows).static_byte
 static_kept h [] = refl
 static_kept h (x ∷ xs) = static_kept (with_list h x None) xs
 
-pub record HomeStays (h g : Lists) (home : Home) : Type 0 where
-  pub there : IsHome g home
-  pub bytes : bytes_in g home ≡ bytes_in h home
+pub record RegionStays (h g : Lists) (region : Region) : Type 0 where
+  pub there : IsRegion g region
+  pub bytes : bytes_in g region ≡ bytes_in h region
 
-pub home_kept : (h : Lists) (rows : List ℕ) (home : Home) → IsHome h home → Each (IsOther home) rows → HomeStays h (without h rows) home
-home_kept h rows Static there e = record { there = tt; bytes = static_kept h rows }
-home_kept h rows (Row q) there e =
+pub region_kept : (h : Lists) (rows : List ℕ) (region : Region) → IsRegion h region → Each (IsOther region) rows → RegionStays h (without h rows) region
+region_kept h rows Static there e = record { there = tt; bytes = static_kept h rows }
+region_kept h rows (Row q) there e =
     let same = other_kept h rows q (each_then (λ r. q ≢ r) (λ r. r ≢ q) (λ r other is. other (sym is)) rows e) in
     record { there = ap is_some same ∙ there; bytes = ap bytes_of same }
 
@@ -92,20 +92,20 @@ footprint_without h (x ∷ xs) alive own =
 -- ---- values that stay
 
 -- a value of other rows is as it was
-pub record StillThere (table : List TocEntry) (h g : Lists) (home : Home) (s : Shape) (i base : ℕ) : Type 0 where
-  pub kept : HomeStays h g home
-  pub rows : rows_at table g s i (bytes_in g home) base ≡ rows_at table h s i (bytes_in h home) base
-  pub holds : Holds table g s i (bytes_in g home) base
+pub record StillThere (table : List TocEntry) (h g : Lists) (region : Region) (s : Shape) (i base : ℕ) : Type 0 where
+  pub kept : RegionStays h g region
+  pub rows : rows_at table g s i (bytes_in g region) base ≡ rows_at table h s i (bytes_in h region) base
+  pub holds : Holds table g s i (bytes_in g region) base
 
-pub still_there : (table : List TocEntry) (h g : Lists) (home : Home) (s : Shape) (i base : ℕ) (gone : List ℕ) → g ≡ without h gone → IsHome h home → Each (IsOther home) gone → Across Differ gone (rows_at table h s i (bytes_in h home) base) → Holds table h s i (bytes_in h home) base → StillThere table h g home s i base
-still_there table h g home s i base gone is there other apart holds =
+pub still_there : (table : List TocEntry) (h g : Lists) (region : Region) (s : Shape) (i base : ℕ) (gone : List ℕ) → g ≡ without h gone → IsRegion h region → Each (IsOther region) gone → Across Differ gone (rows_at table h s i (bytes_in h region) base) → Holds table h s i (bytes_in h region) base → StillThere table h g region s i base
+still_there table h g region s i base gone is there other apart holds =
     let f = without h gone in
-    let bytes = bytes_in h home in
-    let kept = home_kept h gone home there other in
+    let bytes = bytes_in h region in
+    let kept = region_kept h gone region there other in
     let stays : Stays table h f s i bytes bytes base =
-    shape_stays table h f s i bytes bytes base (same_bytes bytes base (spots table s i)) (others_kept h gone (rows_at table h s i bytes base) apart) (omega arith) in
+    shape_stays table h f s i bytes bytes base (same_bytes bytes base (spans table s i)) (others_kept h gone (rows_at table h s i bytes base) apart) (omega arith) in
     subst
-    (λ k. StillThere table h k home s i base)
+    (λ k. StillThere table h k region s i base)
     (sym is)
     (record {
       kept = kept;

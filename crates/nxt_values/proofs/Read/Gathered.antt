@@ -1,7 +1,7 @@
 -- Flat forms that are put together, member by member and element by element.
-use Rattle.std.proofs.Common.{◌≡◌, ℕ, ◌+◌, ◌*◌, ◌≤◌, List, [], ◌∷◌, ◌++◌, map, length, sym, ap, ◌∙◌, append_assoc, append-nil}
+use Rattle.std.proofs.Common.{◌≡◌, ℕ, ◌+◌, ◌*◌, ◌≤◌, List, [], ◌∷◌, ◌++◌, map, length, take, sym, ap, ◌∙◌, arith, append_assoc, append-nil}
 use Rattle.std.specs.Prelude.{ℤ, pos}
-use Rattle.std.proofs.lemmas.List.{length-map}
+use Rattle.std.proofs.lemmas.List.{length-map, length-take, take-take}
 use Rattle.nxt_facts.proofs.Places.{places_more}
 use Rattle.nxt_types.specs.Shapes.{Shape, Array, Members}
 use Rattle.nxt_types.specs.Names.{sizes}
@@ -12,19 +12,28 @@ use Rattle.nxt_facts.specs.Places.{places_from}
 use Rattle.nxt_facts.proofs.Places.{length-places}
 use Rattle.nxt_heap.specs.Lists.{Lists, bytes_at}
 use Rattle.nxt_values.specs.Elements.{AreElements, element_place}
-use Rattle.nxt_values.specs.Homes.{value_there}
+use Rattle.nxt_values.specs.Regions.{value_there}
 use Rattle.nxt_values.specs.declared.elements.Elements.{Elements}
 use Rattle.nxt_values.specs.declared.reading.Place.{Place}
 use Rattle.nxt_values.specs.Held.{value_at, values_among, HoldAll}
 use Rattle.nxt_values.proofs.Laws.Elements.{elements_value}
 
+-- ---- what was there
+
+-- what begins with what begins with them begins with them
+pub front_then : (xs ys zs : List ℤ) → take (length xs) ys ≡ xs → take (length ys) zs ≡ ys → take (length xs) zs ≡ xs
+front_then xs ys zs first next =
+    let less : length xs ≤ length ys = omega (arith, ap length first, length-take (length xs) ys) in
+    sym (take-take (length xs) (length ys) zs less) ∙ ap (take (length xs)) next ∙ first
+
 -- ---- members
 
 -- of the members that take so many entries from the first on, these are still to be added
-pub record Left (table : List TocEntry) (h : Lists) (bytes : List ℕ) (base first all : ℕ) (ss : Members) (entry : ℕ) (into whole : List ℤ) : Type 0 where
+pub record Left (table : List TocEntry) (h : Lists) (bytes : List ℕ) (base first all : ℕ) (ss : Members) (entry : ℕ) (old into whole : List ℤ) : Type 0 where
   pub behind : first ≤ entry
   pub entries : entry + sizes ss ≡ first + all
   pub holds : HoldAll table h ss entry bytes base
+  pub front : take (length old) into ≡ old
   pub both : into ++ flats (values (values_among table h ss entry bytes base)) ≡ whole
 
 -- ---- elements

@@ -23,7 +23,7 @@ use Rattle.nxt_arrays.proofs.run.run_array.Goals as goal
 
 pub index-requires : goal.index-requires
 index-requires c =
-    let s = c.args.space.now in
+    let s = c.args.space.now.vars in
     let i = c.args.i.now in
     let f = fits.index_fit s i c.args.words.now c.in-Index.is c.requires.fit in
     record {
@@ -36,14 +36,14 @@ index-requires c =
 
 pub returns-in-Index : goal.returns-in-Index
 returns-in-Index c d t =
-    let s = c.args.space.now in
+    let s = c.args.space.now.vars in
     let i = c.args.i.now in
     let means = meanings.index_means s i c.args.words.now d t c.in-Index.is (fits.index_fit s i c.args.words.now c.in-Index.is c.requires.fit) in
-    subst (λ v. Does Done v s c.index.result c.index.new.space) (sym means) (c.index.ensures d)
+    subst (λ v. Does Done v c.args.space.now c.index.result c.index.new.space) (sym means) (c.index.ensures d)
 
 pub replace-requires : goal.replace-requires
 replace-requires c =
-    let s = c.args.space.now in
+    let s = c.args.space.now.vars in
     let i = c.args.i.now in
     let f = fits.replace_fit s i c.args.words.now c.in-Replace.is c.requires.fit in
     record {
@@ -58,14 +58,14 @@ replace-requires c =
 
 pub returns-in-Replace : goal.returns-in-Replace
 returns-in-Replace c d t =
-    let s = c.args.space.now in
+    let s = c.args.space.now.vars in
     let i = c.args.i.now in
     let means = meanings.replace_means s i c.args.words.now d t c.in-Replace.is (fits.replace_fit s i c.args.words.now c.in-Replace.is c.requires.fit) in
-    subst (λ v. Does Done v s c.replace.result c.replace.new.space) (sym means) (c.replace.ensures d)
+    subst (λ v. Does Done v c.args.space.now c.replace.result c.replace.new.space) (sym means) (c.replace.ensures d)
 
 pub array_size-requires : goal.array_size-requires
 array_size-requires c =
-    let s = c.args.space.now in
+    let s = c.args.space.now.vars in
     let i = c.args.i.now in
     let f = fits.size_fit s i c.args.words.now c.in-Arrsize.is c.requires.fit in
     record {
@@ -77,14 +77,14 @@ array_size-requires c =
 
 pub returns-in-Arrsize : goal.returns-in-Arrsize
 returns-in-Arrsize c d t =
-    let s = c.args.space.now in
+    let s = c.args.space.now.vars in
     let i = c.args.i.now in
     let means = meanings.size_means s i c.args.words.now d t c.in-Arrsize.is (fits.size_fit s i c.args.words.now c.in-Arrsize.is c.requires.fit) in
-    subst (λ v. Does Done v s (Ok tt) c.array_size.new.space) (sym means) (c.array_size.ensures d)
+    subst (λ v. Does Done v c.args.space.now (Ok tt) c.array_size.new.space) (sym means) (c.array_size.ensures d)
 
 pub subset-requires : goal.subset-requires
 subset-requires c =
-    let s = c.args.space.now in
+    let s = c.args.space.now.vars in
     let i = c.args.i.now in
     let f = fits.subset_fit s i c.args.words.now c.in-Arrsubset.is c.requires.fit in
     record {
@@ -97,14 +97,14 @@ subset-requires c =
 
 pub returns-in-Arrsubset : goal.returns-in-Arrsubset
 returns-in-Arrsubset c d t =
-    let s = c.args.space.now in
+    let s = c.args.space.now.vars in
     let i = c.args.i.now in
     let means = meanings.subset_means s i c.args.words.now d t c.in-Arrsubset.is (fits.subset_fit s i c.args.words.now c.in-Arrsubset.is c.requires.fit) in
-    subst (λ v. Does Done v s c.subset.result c.subset.new.space) (sym means) (c.subset.ensures d)
+    subst (λ v. Does Done v c.args.space.now c.subset.result c.subset.new.space) (sym means) (c.subset.ensures d)
 
 pub initialize-requires : goal.initialize-requires
 initialize-requires c =
-    let s = c.args.space.now in
+    let s = c.args.space.now.vars in
     let i = c.args.i.now in
     let f = fits.initialize_fit s i c.args.words.now c.in-Arrinit.is c.requires.fit in
     record {
@@ -119,10 +119,10 @@ initialize-requires c =
 
 pub returns-in-Arrinit : goal.returns-in-Arrinit
 returns-in-Arrinit c d t =
-    let s = c.args.space.now in
+    let s = c.args.space.now.vars in
     let i = c.args.i.now in
     let means = meanings.initialize_means s i c.args.words.now d t c.in-Arrinit.is (fits.initialize_fit s i c.args.words.now c.in-Arrinit.is c.requires.fit) in
-    subst (λ v. Does Done v s c.initialize.result c.initialize.new.space) (sym means) (c.initialize.ensures d)
+    subst (λ v. Does Done v c.args.space.now c.initialize.result c.initialize.new.space) (sym means) (c.initialize.ensures d)
 
 -- ---- values as bytes, and numbers in texts
 
@@ -133,7 +133,7 @@ no_list false e = refl
 
 pub flatten-requires : goal.flatten-requires
 flatten-requires c =
-    let s = c.args.space.now in
+    let s = c.args.space.now.vars in
     let i = c.args.i.now in
     let f = fits.flatten_fit s i c.args.words.now c.in-Flatten.is c.requires.fit in
     record {
@@ -146,14 +146,14 @@ flatten-requires c =
 
 pub returns-in-Flatten : goal.returns-in-Flatten
 returns-in-Flatten c d t =
-    let s = c.args.space.now in
+    let s = c.args.space.now.vars in
     let i = c.args.i.now in
     let means = meanings.flatten_means s i c.args.words.now d t c.in-Flatten.is (fits.flatten_fit s i c.args.words.now c.in-Flatten.is c.requires.fit) in
-    subst (λ v. Does Done v s c.flatten.result c.flatten.new.space) (sym means) (c.flatten.ensures d)
+    subst (λ v. Does Done v c.args.space.now c.flatten.result c.flatten.new.space) (sym means) (c.flatten.ensures d)
 
 pub unflatten-requires : goal.unflatten-requires
 unflatten-requires c =
-    let s = c.args.space.now in
+    let s = c.args.space.now.vars in
     let i = c.args.i.now in
     let f = fits.unflatten_fit s i c.args.words.now c.in-Unflatten.is c.requires.fit in
     record {
@@ -169,14 +169,14 @@ unflatten-requires c =
 
 pub returns-in-Unflatten : goal.returns-in-Unflatten
 returns-in-Unflatten c d t =
-    let s = c.args.space.now in
+    let s = c.args.space.now.vars in
     let i = c.args.i.now in
     let means = meanings.unflatten_means s i c.args.words.now d t c.in-Unflatten.is (fits.unflatten_fit s i c.args.words.now c.in-Unflatten.is c.requires.fit) in
-    subst (λ v. Does Done v s c.unflatten.result c.unflatten.new.space) (sym means) (c.unflatten.ensures d)
+    subst (λ v. Does Done v c.args.space.now c.unflatten.result c.unflatten.new.space) (sym means) (c.unflatten.ensures d)
 
 pub number_to_string-requires : goal.number_to_string-requires
 number_to_string-requires c =
-    let s = c.args.space.now in
+    let s = c.args.space.now.vars in
     let i = c.args.i.now in
     let f = fits.to_string_fit s i c.args.words.now c.in-Numtostr.is c.requires.fit in
     record {
@@ -189,14 +189,14 @@ number_to_string-requires c =
 
 pub returns-in-Numtostr : goal.returns-in-Numtostr
 returns-in-Numtostr c d t =
-    let s = c.args.space.now in
+    let s = c.args.space.now.vars in
     let i = c.args.i.now in
     let means = meanings.to_string_means s i c.args.words.now d t c.in-Numtostr.is (fits.to_string_fit s i c.args.words.now c.in-Numtostr.is c.requires.fit) in
-    subst (λ v. Does Done v s c.number_to_string.result c.number_to_string.new.space) (sym means) (c.number_to_string.ensures d)
+    subst (λ v. Does Done v c.args.space.now c.number_to_string.result c.number_to_string.new.space) (sym means) (c.number_to_string.ensures d)
 
 pub string_to_number-requires : goal.string_to_number-requires
 string_to_number-requires c =
-    let s = c.args.space.now in
+    let s = c.args.space.now.vars in
     let i = c.args.i.now in
     let f = fits.to_number_fit s i c.args.words.now c.in-Strtonum.is c.requires.fit in
     record {
@@ -210,16 +210,16 @@ string_to_number-requires c =
 
 pub returns-in-Strtonum : goal.returns-in-Strtonum
 returns-in-Strtonum c d t =
-    let s = c.args.space.now in
+    let s = c.args.space.now.vars in
     let i = c.args.i.now in
     let means = meanings.to_number_means s i c.args.words.now d t c.in-Strtonum.is (fits.to_number_fit s i c.args.words.now c.in-Strtonum.is c.requires.fit) in
-    subst (λ v. Does Done v s c.string_to_number.result c.string_to_number.new.space) (sym means) (c.string_to_number.ensures d)
+    subst (λ v. Does Done v c.args.space.now c.string_to_number.result c.string_to_number.new.space) (sym means) (c.string_to_number.ensures d)
 
 -- ---- texts
 
 pub substring-requires : goal.substring-requires
 substring-requires c =
-    let s = c.args.space.now in
+    let s = c.args.space.now.vars in
     let i = c.args.i.now in
     let f = fits.substring_fit s i c.args.words.now c.in-Strsubset.is c.requires.fit in
     record {
@@ -232,14 +232,14 @@ substring-requires c =
 
 pub returns-in-Strsubset : goal.returns-in-Strsubset
 returns-in-Strsubset c d t =
-    let s = c.args.space.now in
+    let s = c.args.space.now.vars in
     let i = c.args.i.now in
     let means = meanings.substring_means s i c.args.words.now d t c.in-Strsubset.is (fits.substring_fit s i c.args.words.now c.in-Strsubset.is c.requires.fit) in
-    subst (λ v. Does Done v s c.substring.result c.substring.new.space) (sym means) (c.substring.ensures d)
+    subst (λ v. Does Done v c.args.space.now c.substring.result c.substring.new.space) (sym means) (c.substring.ensures d)
 
 pub string_to_array-requires : goal.string_to_array-requires
 string_to_array-requires c =
-    let s = c.args.space.now in
+    let s = c.args.space.now.vars in
     let i = c.args.i.now in
     let f = fits.to_array_fit s i c.args.words.now c.in-Strtoarr.is c.requires.fit in
     record {
@@ -252,10 +252,10 @@ string_to_array-requires c =
 
 pub returns-in-Strtoarr : goal.returns-in-Strtoarr
 returns-in-Strtoarr c d t =
-    let s = c.args.space.now in
+    let s = c.args.space.now.vars in
     let i = c.args.i.now in
     let means = meanings.to_array_means s i c.args.words.now d t c.in-Strtoarr.is (fits.to_array_fit s i c.args.words.now c.in-Strtoarr.is c.requires.fit) in
-    subst (λ v. Does Done v s c.string_to_array.result c.string_to_array.new.space) (sym means) (c.string_to_array.ensures d)
+    subst (λ v. Does Done v c.args.space.now c.string_to_array.result c.string_to_array.new.space) (sym means) (c.string_to_array.ensures d)
 
 -- the only statement left
 only_left : (o : Op) → runs o ≡ true → o ≢ ops.Index → o ≢ ops.Replace → o ≢ ops.Arrsize → o ≢ ops.Arrbuild → o ≢ ops.Arrsubset → o ≢ ops.Arrinit → o ≢ ops.Flatten → o ≢ ops.Unflatten → o ≢ ops.Numtostr → o ≢ ops.Strtonum → o ≢ ops.Strcat → o ≢ ops.Strsubset → o ≢ ops.Strtoarr → o ≡ ops.Arrtostr
@@ -280,7 +280,7 @@ is_left c = only_left c.args.i.now.op c.requires.runs c.in_default.not-Index c.i
 
 pub array_to_string-requires : goal.array_to_string-requires
 array_to_string-requires c =
-    let s = c.args.space.now in
+    let s = c.args.space.now.vars in
     let i = c.args.i.now in
     let f = fits.of_array_fit s i c.args.words.now (is_left c) c.requires.fit in
     record {
@@ -293,17 +293,17 @@ array_to_string-requires c =
 
 pub returns-in_default : goal.returns-in_default
 returns-in_default c d t =
-    let s = c.args.space.now in
+    let s = c.args.space.now.vars in
     let i = c.args.i.now in
     let left = only_left i.op c.requires.runs c.in_default.not-Index c.in_default.not-Replace c.in_default.not-Arrsize c.in_default.not-Arrbuild c.in_default.not-Arrsubset c.in_default.not-Arrinit c.in_default.not-Flatten c.in_default.not-Unflatten c.in_default.not-Numtostr c.in_default.not-Strtonum c.in_default.not-Strcat c.in_default.not-Strsubset c.in_default.not-Strtoarr in
     let means = meanings.of_array_means s i c.args.words.now d t left (fits.of_array_fit s i c.args.words.now left c.requires.fit) in
-    subst (λ v. Does Done v s c.array_to_string.result c.array_to_string.new.space) (sym means) (c.array_to_string.ensures d)
+    subst (λ v. Does Done v c.args.space.now c.array_to_string.result c.array_to_string.new.space) (sym means) (c.array_to_string.ensures d)
 
 -- ---- any number of operands
 
 pub build-requires : goal.build-requires
 build-requires c =
-    let s = c.args.space.now in
+    let s = c.args.space.now.vars in
     let i = c.args.i.now in
     let f = several.build_fit s i c.args.words.now c.in-Arrbuild.is c.requires.fit in
     let is = sym c.sources_of.ensures.sources in
@@ -318,15 +318,15 @@ build-requires c =
 
 pub returns-in-Arrbuild : goal.returns-in-Arrbuild
 returns-in-Arrbuild c d t =
-    let s = c.args.space.now in
+    let s = c.args.space.now.vars in
     let i = c.args.i.now in
     let means = meanings.build_means s i c.args.words.now d t c.in-Arrbuild.is (several.build_fit s i c.args.words.now c.in-Arrbuild.is c.requires.fit) in
     let stored : List ℕ → Value = λ ws. values_stored s (place_of s i.a ∷ []) (build d (given s i.a ∷ map (given s) ws)) in
-    subst (λ v. Does Done v s c.build.result c.build.new.space) (ap stored c.sources_of.ensures.sources ∙ sym means) (c.build.ensures d)
+    subst (λ v. Does Done v c.args.space.now c.build.result c.build.new.space) (ap stored c.sources_of.ensures.sources ∙ sym means) (c.build.ensures d)
 
 pub concatenate-requires : goal.concatenate-requires
 concatenate-requires c =
-    let s = c.args.space.now in
+    let s = c.args.space.now.vars in
     let i = c.args.i.now in
     let f = several.concatenate_fit s i c.args.words.now c.in-Strcat.is c.requires.fit in
     let is = sym c.sources_of-in-Strcat.ensures.sources in
@@ -341,8 +341,8 @@ concatenate-requires c =
 
 pub returns-in-Strcat : goal.returns-in-Strcat
 returns-in-Strcat c d t =
-    let s = c.args.space.now in
+    let s = c.args.space.now.vars in
     let i = c.args.i.now in
     let means = meanings.concatenate_means s i c.args.words.now d t c.in-Strcat.is (several.concatenate_fit s i c.args.words.now c.in-Strcat.is c.requires.fit) in
     let stored : List ℕ → Value = λ ws. values_stored s (place_of s i.a ∷ []) (concatenate d (given s i.a ∷ map (given s) ws)) in
-    subst (λ v. Does Done v s c.concatenate.result c.concatenate.new.space) (ap stored c.sources_of-in-Strcat.ensures.sources ∙ sym means) (c.concatenate.ensures d)
+    subst (λ v. Does Done v c.args.space.now c.concatenate.result c.concatenate.new.space) (ap stored c.sources_of-in-Strcat.ensures.sources ∙ sym means) (c.concatenate.ensures d)

@@ -110,7 +110,7 @@ place_rows-requires-clause-fits c =
     let a = adds c in
     omega (arith, two_end c.args.pool.now c.open_room.new.pool c.set.new.pool c.set-2.new.pool c.args.table c.args.stride c.round4-room.result a, a.fits)
 
-added : (c : goal.After-slice_known-5-1) → Adds c.args.pool.now c.open_room.new.pool c.set.new.pool c.set-2.new.pool c.args.table c.args.stride c.round4-room.result
+added : (c : goal.After-slice_known-7-1) → Adds c.args.pool.now c.open_room.new.pool c.set.new.pool c.set-2.new.pool c.args.table c.args.stride c.round4-room.result
 added c =
     let d = c.requires.dense in
     let block = table-block c.args.pool.now c.args.table d in
@@ -137,7 +137,7 @@ added c =
       two_above = rw c.get-first.ensures at c.set-2.ensures.above;
     }
 
-grown : (c : goal.After-slice_known-5-1)
+grown : (c : goal.After-slice_known-7-1)
     → Grown c.args.pool.now c.open_room.new.pool c.set.new.pool c.set-2.new.pool c.place_rows.new.pool c.args.table c.args.stride c.round4-room.result
 grown c = record {
   adds = added c;

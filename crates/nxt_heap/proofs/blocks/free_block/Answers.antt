@@ -21,7 +21,7 @@ free_row-requires-clause-alive c =
     dense_alive c.resize_block.new.pool c.args.table c.args.row c.resize_block.ensures.dense c.requires.above
     (omega (arith, c.resize_block.ensures.rows, c.requires.within)) (λ none. c.requires.alive (sym c.resize_block.ensures.stride ∙ none))
 
-swaps : (c : goal.After-slice_known-3-1) → Swaps c.resize_block.new.pool c.free_row.new.pool c.args.table c.args.row
+swaps : (c : goal.After-slice_known-5-1) → Swaps c.resize_block.new.pool c.free_row.new.pool c.args.table c.args.row
 swaps c =
     let within : c.args.row < row_count c.resize_block.new.pool c.args.table = omega (arith, c.resize_block.ensures.rows, c.requires.within) in
     record {

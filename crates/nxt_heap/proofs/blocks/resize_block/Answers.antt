@@ -102,7 +102,7 @@ place_rows-requires-clause-some c = omega (arith, counted c, c.requires.dense.so
 
 -- ---- at the return
 
-steps : (c : goal.After-slice_known-4-1)
+steps : (c : goal.After-slice_known-6-1)
     → Steps c.args.pool.now c.open_room.new.pool c.set.new.pool c.place_rows.new.pool c.args.table c.args.row
     (c.args.bytes / (dope_row c.args.pool.now c.args.table c.args.row).stride) c.min.result c.round4-room.result
 steps c = record {
@@ -114,7 +114,7 @@ steps c = record {
   places = record { rows = c.place_rows.ensures.rows; below = c.place_rows.ensures.below; above = c.place_rows.ensures.above };
 }
 
-reshaped : (c : goal.After-slice_known-4-1)
+reshaped : (c : goal.After-slice_known-6-1)
     → Reshaped c.args.pool.now c.place_rows.new.pool c.args.table c.args.row c.min.result c.round4-room.result
 reshaped c =
     Steps-reshaped c.args.pool.now c.open_room.new.pool c.set.new.pool c.place_rows.new.pool c.args.table c.args.row
@@ -122,14 +122,14 @@ reshaped c =
     c.requires.dense c.requires.above c.requires.within (omega (arith, c.requires.fits, c.requires.end, c.round4-room.ensures))
     (whole_block (dope_row c.args.pool.now c.args.table c.args.row) c.args.bytes c.requires.whole ∙ sym c.round4-room.ensures) (steps c)
 
-bytes_of_row : (c : goal.After-slice_known-4-1) → row_bytes (dope_row c.place_rows.new.pool c.args.table c.args.row) ≡ c.args.bytes
+bytes_of_row : (c : goal.After-slice_known-6-1) → row_bytes (dope_row c.place_rows.new.pool c.args.table c.args.row) ≡ c.args.bytes
 bytes_of_row c =
     ap row_bytes (own_row c.args.pool.now c.open_room.new.pool c.set.new.pool c.place_rows.new.pool c.args.table c.args.row
     (c.args.bytes / (dope_row c.args.pool.now c.args.table c.args.row).stride) c.min.result c.round4-room.result
     c.requires.dense c.requires.above c.requires.within (steps c))
     ∙ whole_bytes (dope_row c.args.pool.now c.args.table c.args.row) c.args.bytes c.requires.whole
 
-own : (c : goal.After-slice_known-4-1)
+own : (c : goal.After-slice_known-6-1)
     → Own c.args.pool.now c.place_rows.new.pool c.args.table c.args.row c.min.result c.round4-room.result c.args.bytes
 own c =
     let had = c.byte_count-had.ensures ∙ ap row_bytes c.get-found.ensures in

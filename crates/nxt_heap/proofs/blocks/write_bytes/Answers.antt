@@ -1,8 +1,8 @@
-use Rattle.std.proofs.Common.{◌≡◌, ◌<◌, ◌+◌, ◌≤◌, ◌∙◌, length, List, ap, sym, arith}
+use Rattle.std.proofs.Common.{◌≡◌, ◌+◌, ◌∙◌, length, ap, arith}
 use Rattle.std.proofs.lemmas.Bool.Decides.{nat_tests}
 use Rattle.nxt_rows.specs.Rows.{dope_row}
-use Rattle.nxt_heap.specs.PutAt.{put_at}
-use Rattle.nxt_heap.proofs.Laws.PutAt.{put_at-before}
+use Rattle.nxt_facts.specs.PutAt.{put_at}
+use Rattle.nxt_facts.proofs.PutAt.{put_at-before}
 use Rattle.nxt_heap.proofs.Pool.Places.{row_in_pool, stands, end_of-table, start_of-le}
 use Rattle.nxt_heap.proofs.Pool.BytesWritten.{WritesBytes, after_bytes, elements, bytes_same, bytes_lists, bytes_fit, bytes_none}
 use Rattle.nxt_heap.proofs.blocks.write_bytes.Goals as goal

@@ -1,7 +1,8 @@
 -- The number outside is that of one element at 0.
 use Rattle.std.proofs.Common.{rules, ◌≡◌, ℕ, ◌+◌, ◌<◌, ◌≤◌, ◌^◌, [], ◌∷◌, refl, ap, subst, ◌∙◌, arith}
 use Rattle.std.proofs.lemmas.Result.{IfOk-weaker}
-use Rattle.nxt_model.specs.Reading.{row_count, u16_in}
+use Rattle.nxt_types.specs.Bytes.{u16_at}
+use Rattle.nxt_model.specs.Reading.{row_count}
 use Rattle.nxt_layout.specs.Inside.RowPasses.{ground_of, Takes}
 use Rattle.nxt_layout.proofs.Dope.Through.{told_in}
 use Rattle.nxt_layout.proofs.known.found_outside.Goals as goal
@@ -19,10 +20,10 @@ returns c =
     let names = c.in_ok-names.names in
     let none = c.in_ok-names.ensures.rows in
     let table = c.in_ok-names.ensures.table ∙ c.rows.ensures in
-    let takes : Takes g (u16_in g.memory.bytes (0 + place) ∷ []) names c.take.new.self =
+    let takes : Takes g (u16_at g.memory.bytes (0 + place) ∷ []) names c.take.new.self =
     subst
     (λ n. Takes g (n ∷ []) names c.take.new.self)
-    (c.number_at.ensures ∙ ap (u16_in g.memory.bytes) (zero_more place))
+    (c.number_at.ensures ∙ ap (u16_at g.memory.bytes) (zero_more place))
     (c.in_ok-take.ensures g table)
     in
     let one : 1 ≤ 2 ^ 33 = omega arith in

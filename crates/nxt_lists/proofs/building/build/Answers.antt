@@ -12,7 +12,7 @@ use Rattle.nxt_lists.proofs.building.build.Goals as goal
 
 pub check_room-requires-clause-countable : goal.check_room-requires-clause-countable
 check_room-requires-clause-countable c =
-    let s = c.args.space.now in
+    let s = c.args.space.now.vars in
     let vs = pieces_of s c.args.dest c.args.sources.now in
     let are = pieces_for s c.args.dest c.args.sources.now (record { sound = c.requires.sound; of_list = c.requires.of_list; named = c.requires.sources; fit = c.requires.fit }) c.requires.few in
     let size = list_size s c.args.dest vs c.in_ok-found.found.count c.in_ok-found.found.size c.requires.sound c.requires.dest are (ap (λ f. f.count) c.in_ok-found.ensures) (ap (λ f. f.size) c.in_ok-found.ensures) in
@@ -20,33 +20,33 @@ check_room-requires-clause-countable c =
 
 pub returns-in_err-check_room : goal.returns-in_err-check_room
 returns-in_err-check_room c d =
-    let s = c.args.space.now in
+    let s = c.args.space.now.vars in
     let vs = pieces_of s c.args.dest c.args.sources.now in
     let w = stored (shape_of s c.args.dest) (list_of vs) in
     let are = pieces_for s c.args.dest c.args.sources.now (record { sound = c.requires.sound; of_list = c.requires.of_list; named = c.requires.sources; fit = c.requires.fit }) c.requires.few in
     let size = list_size s c.args.dest vs c.in_ok-found.found.count c.in_ok-found.found.size c.requires.sound c.requires.dest are (ap (λ f. f.count) c.in_ok-found.ensures) (ap (λ f. f.size) c.in_ok-found.ensures) in
-    given_stored s s c.args.dest (list_of vs) c.from_residual-in_err-check_room.result
-    (passed_on Done Done (with_value s c.args.dest w) s s c.in_err-check_room.field-0.0 c.from_residual-in_err-check_room.result c.from_residual-in_err-check_room.ensures.1 (c.in_err-check_room.ensures.refused w size.is))
+    given_stored c.args.space.now c.args.space.now c.args.dest (list_of vs) c.from_residual-in_err-check_room.result
+    (passed_on Done Done (with_value s c.args.dest w) c.args.space.now c.args.space.now c.in_err-check_room.field-0.0 c.from_residual-in_err-check_room.result c.from_residual-in_err-check_room.ensures.1 (c.in_err-check_room.ensures.refused w size.is))
     d
 
 pub joined-requires-clause-few : goal.joined-requires-clause-few
 joined-requires-clause-few c =
-    let s = c.args.space.now in
+    let s = c.args.space.now.vars in
     let are = pieces_for s c.args.dest c.args.sources.now (record { sound = c.requires.sound; of_list = c.requires.of_list; named = c.requires.sources; fit = c.requires.fit }) c.requires.few in
     let counted = ap (λ f. f.count) c.in_ok-found.ensures in
     omega (arith, counted, are.few)
 
 pub store-requires-clause-countable : goal.store-requires-clause-countable
 store-requires-clause-countable c =
-    let s = c.args.space.now in
+    let s = c.args.space.now.vars in
     let vs = pieces_of s c.args.dest c.args.sources.now in
     let are = pieces_for s c.args.dest c.args.sources.now (record { sound = c.requires.sound; of_list = c.requires.of_list; named = c.requires.sources; fit = c.requires.fit }) c.requires.few in
     (list_storable s c.args.dest vs c.in_ok-flat.flat c.requires.sound c.requires.dest are c.in_ok-flat.ensures).countable
 
 pub returns : goal.returns
 returns c d =
-    let s = c.args.space.now in
+    let s = c.args.space.now.vars in
     let vs = pieces_of s c.args.dest c.args.sources.now in
     let are = pieces_for s c.args.dest c.args.sources.now (record { sound = c.requires.sound; of_list = c.requires.of_list; named = c.requires.sources; fit = c.requires.fit }) c.requires.few in
     let e = list_storable s c.args.dest vs c.in_ok-flat.flat c.requires.sound c.requires.dest are c.in_ok-flat.ensures in
-    spelled_given s c.store.new.space c.args.dest (list_of vs) c.in_ok-flat.flat c.store.result e c.store.ensures d
+    spelled_given c.args.space.now c.store.new.space c.args.dest (list_of vs) c.in_ok-flat.flat c.store.result e c.store.ensures d

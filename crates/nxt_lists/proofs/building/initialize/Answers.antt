@@ -18,7 +18,7 @@ use Rattle.nxt_lists.proofs.building.initialize.Goals as goal
 
 pub spelled_size-requires : goal.spelled_size-requires
 spelled_size-requires c =
-    let s = c.args.space.now in
+    let s = c.args.space.now.vars in
     let t = tree c.element_of.result.now in
     let same = c.element_of.ensures in
     let spelled = c.as_slice.ensures ∙ c.in_ok-one.ensures in
@@ -28,7 +28,7 @@ spelled_size-requires c =
 
 pub times-requires-clause-lists : goal.times-requires-clause-lists
 times-requires-clause-lists c =
-    let s = c.args.space.now in
+    let s = c.args.space.now.vars in
     let t = tree c.element_of.result.now in
     let same = c.element_of.ensures in
     let spelled = c.as_slice.ensures ∙ c.in_ok-one.ensures in
@@ -39,7 +39,7 @@ times-requires-clause-lists c =
 
 pub times-requires-clause-bytes : goal.times-requires-clause-bytes
 times-requires-clause-bytes c =
-    let s = c.args.space.now in
+    let s = c.args.space.now.vars in
     let t = tree c.element_of.result.now in
     let same = c.element_of.ensures in
     let spelled = c.as_slice.ensures ∙ c.in_ok-one.ensures in
@@ -50,7 +50,7 @@ times-requires-clause-bytes c =
 
 pub check_room-requires-clause-countable : goal.check_room-requires-clause-countable
 check_room-requires-clause-countable c =
-    let s = c.args.space.now in
+    let s = c.args.space.now.vars in
     let t = tree c.element_of.result.now in
     let same = c.element_of.ensures in
     let spelled = c.as_slice.ensures ∙ c.in_ok-one.ensures in
@@ -64,7 +64,7 @@ check_room-requires-clause-countable c =
 
 pub returns-in_err-check_room : goal.returns-in_err-check_room
 returns-in_err-check_room c d =
-    let s = c.args.space.now in
+    let s = c.args.space.now.vars in
     let t = tree c.element_of.result.now in
     let same = c.element_of.ensures in
     let spelled = c.as_slice.ensures ∙ c.in_ok-one.ensures in
@@ -80,15 +80,15 @@ returns-in_err-check_room c d =
     let w = stored (shape_of s c.args.dest) v in
     let passed = c.from_residual-in_err-check_room in
     subst
-    (λ k. Gives s c.args.dest (list_of (replicate k (value_of s c.args.value))) passed.result s)
+    (λ k. Gives c.args.space.now c.args.dest (list_of (replicate k (value_of s c.args.value))) passed.result c.args.space.now)
     counted
-    (given_stored s s c.args.dest v passed.result
-    (passed_on Done Done (with_value s c.args.dest w) s s c.in_err-check_room.field-0.0 passed.result passed.ensures.1 (c.in_err-check_room.ensures.refused w (is ∙ copied.size.is))))
+    (given_stored c.args.space.now c.args.space.now c.args.dest v passed.result
+    (passed_on Done Done (with_value s c.args.dest w) c.args.space.now c.args.space.now c.in_err-check_room.field-0.0 passed.result passed.ensures.1 (c.in_err-check_room.ensures.refused w (is ∙ copied.size.is))))
     d
 
 pub store-requires-clause-countable : goal.store-requires-clause-countable
 store-requires-clause-countable c =
-    let s = c.args.space.now in
+    let s = c.args.space.now.vars in
     let t = tree c.element_of.result.now in
     let same = c.element_of.ensures in
     let spelled = c.as_slice.ensures ∙ c.in_ok-one.ensures in
@@ -101,7 +101,7 @@ store-requires-clause-countable c =
 
 pub returns : goal.returns
 returns c d =
-    let s = c.args.space.now in
+    let s = c.args.space.now.vars in
     let t = tree c.element_of.result.now in
     let same = c.element_of.ensures in
     let spelled = c.as_slice.ensures ∙ c.in_ok-one.ensures in
@@ -116,7 +116,7 @@ returns c d =
     (copies_spelled c.wrap-count.result (value_of s c.args.value) c.as_slice-2.result.now c.in_ok-flat.flat again c.in_ok-flat.ensures)
     in
     subst
-    (λ k. Gives s c.args.dest (list_of (replicate k (value_of s c.args.value))) c.store.result c.store.new.space)
+    (λ k. Gives c.args.space.now c.args.dest (list_of (replicate k (value_of s c.args.value))) c.store.result c.store.new.space)
     counted
-    (spelled_given s c.store.new.space c.args.dest (list_of vs) c.in_ok-flat.flat c.store.result e c.store.ensures)
+    (spelled_given c.args.space.now c.store.new.space c.args.dest (list_of vs) c.in_ok-flat.flat c.store.result e c.store.ensures)
     d

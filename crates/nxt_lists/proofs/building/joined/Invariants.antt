@@ -6,4 +6,4 @@ use Rattle.nxt_lists.specs.Pieces.{pieces_of}
 use Rattle.nxt_lists.proofs.building.joined.Given as goal
 
 abbrev pub invariant-loop-source : goal.invariant-loop-source
-invariant-loop-source l = l.flat ≡ pos l.count ∷ flat_map flat (pieces_of l.space l.dest (take l.source-index l.sources))
+invariant-loop-source l = l.flat ≡ pos l.count ∷ flat_map flat (pieces_of l.space.vars l.dest (take l.source-index l.sources))

@@ -7,7 +7,7 @@ use Rattle.nxt_lists.proofs.building.measured.Goals as goal
 
 pub size_of_many-requires : goal.size_of_many-requires
 size_of_many-requires c =
-    let s = c.args.space.now in
+    let s = c.args.space.now.vars in
     let are : AreSources s c.args.dest c.args.sources.now = record { sound = c.requires.sound; of_list = c.requires.of_list; named = c.requires.sources; fit = c.requires.fit } in
     let same = c.element_of-element.ensures in
     let more = measured_more s c.args.dest c.args.sources.now c.loop-source.source-index 0 (tree c.element_of-element.result.now) c.loop-source.count c.in_ok-more.more c.loop-source.size c.new-flat.result c.as_slice.result.now are c.requires.dest same c.loop-source-test.true c.requires.few c.loop-source.invariant.count c.loop-source.invariant.size c.new-flat.ensures c.in_ok-more.ensures.count (c.as_slice.ensures ∙ c.in_ok-more.ensures.flat) in
@@ -15,7 +15,7 @@ size_of_many-requires c =
 
 pub plus-size-requires-clause-lists : goal.plus-size-requires-clause-lists
 plus-size-requires-clause-lists c =
-    let s = c.args.space.now in
+    let s = c.args.space.now.vars in
     let are : AreSources s c.args.dest c.args.sources.now = record { sound = c.requires.sound; of_list = c.requires.of_list; named = c.requires.sources; fit = c.requires.fit } in
     let same = c.element_of-element.ensures in
     let more = measured_more s c.args.dest c.args.sources.now c.loop-source.source-index 0 (tree c.element_of-element.result.now) c.loop-source.count c.in_ok-more.more c.loop-source.size c.new-flat.result c.as_slice.result.now are c.requires.dest same c.loop-source-test.true c.requires.few c.loop-source.invariant.count c.loop-source.invariant.size c.new-flat.ensures c.in_ok-more.ensures.count (c.as_slice.ensures ∙ c.in_ok-more.ensures.flat) in
@@ -23,7 +23,7 @@ plus-size-requires-clause-lists c =
 
 pub plus-size-requires-clause-bytes : goal.plus-size-requires-clause-bytes
 plus-size-requires-clause-bytes c =
-    let s = c.args.space.now in
+    let s = c.args.space.now.vars in
     let are : AreSources s c.args.dest c.args.sources.now = record { sound = c.requires.sound; of_list = c.requires.of_list; named = c.requires.sources; fit = c.requires.fit } in
     let same = c.element_of-element.ensures in
     let more = measured_more s c.args.dest c.args.sources.now c.loop-source.source-index 0 (tree c.element_of-element.result.now) c.loop-source.count c.in_ok-more.more c.loop-source.size c.new-flat.result c.as_slice.result.now are c.requires.dest same c.loop-source-test.true c.requires.few c.loop-source.invariant.count c.loop-source.invariant.size c.new-flat.ensures c.in_ok-more.ensures.count (c.as_slice.ensures ∙ c.in_ok-more.ensures.flat) in
@@ -31,7 +31,7 @@ plus-size-requires-clause-bytes c =
 
 pub overflow_add-count : goal.overflow_add-count
 overflow_add-count c =
-    let s = c.args.space.now in
+    let s = c.args.space.now.vars in
     let are : AreSources s c.args.dest c.args.sources.now = record { sound = c.requires.sound; of_list = c.requires.of_list; named = c.requires.sources; fit = c.requires.fit } in
     let same = c.element_of-element.ensures in
     let more = measured_more s c.args.dest c.args.sources.now c.loop-source.source-index 0 (tree c.element_of-element.result.now) c.loop-source.count c.in_ok-more.more c.loop-source.size c.new-flat.result c.as_slice.result.now are c.requires.dest same c.loop-source-test.true c.requires.few c.loop-source.invariant.count c.loop-source.invariant.size c.new-flat.ensures c.in_ok-more.ensures.count (c.as_slice.ensures ∙ c.in_ok-more.ensures.flat) in
@@ -40,7 +40,7 @@ overflow_add-count c =
 
 pub loop-source-preserved : goal.loop-source-preserved
 loop-source-preserved c =
-    let s = c.args.space.now in
+    let s = c.args.space.now.vars in
     let are : AreSources s c.args.dest c.args.sources.now = record { sound = c.requires.sound; of_list = c.requires.of_list; named = c.requires.sources; fit = c.requires.fit } in
     let same = c.element_of-element.ensures in
     let more = measured_more s c.args.dest c.args.sources.now c.loop-source.source-index 0 (tree c.element_of-element.result.now) c.loop-source.count c.in_ok-more.more c.loop-source.size c.new-flat.result c.as_slice.result.now are c.requires.dest same c.loop-source-test.true c.requires.few c.loop-source.invariant.count c.loop-source.invariant.size c.new-flat.ensures c.in_ok-more.ensures.count (c.as_slice.ensures ∙ c.in_ok-more.ensures.flat) in

@@ -8,8 +8,8 @@ use Rattle.nxt_lists.proofs.building.measured.Given as goal
 
 abbrev pub invariant-loop-source : goal.invariant-loop-source
 invariant-loop-source l =
-    let s = element_of (shape_of l.space l.dest) in
-    let vs = pieces_of l.space l.dest (take l.source-index l.sources) in
+    let s = element_of (shape_of l.space.vars l.dest) in
+    let vs = pieces_of l.space.vars l.dest (take l.source-index l.sources) in
     record {
       count : l.count ≡ length vs;
       size : l.size ≡ size_of_each s (map (stored s) vs);

@@ -11,15 +11,15 @@ use Rattle.nxt_lists.proofs.elements.array_size.Goals as goal
 
 pub returns : goal.returns
 returns c d =
-    let s = c.args.space.now in
+    let s = c.args.space.now.vars in
     let v = value_of s c.args.list in
     let fits : SFits w64 c.from.result = search rules in
     let x = to_z w64 (of_z w64 c.from.result) in
     given_stored
-    s
+    c.args.space.now
     c.set.new.self
     c.args.dest
     (Num (pos (length (elements v))))
     (Ok tt)
-    (number_set s c.set.new.self c.args.dest (Num (pos (length (elements v)))) x c.requires.sound c.requires.number (to_z-of_z fits ∙ c.from.ensures ∙ ap pos c.length_of.ensures) c.set.ensures)
+    (number_set c.args.space.now c.set.new.self c.args.dest (Num (pos (length (elements v)))) x c.requires.sound c.requires.number (to_z-of_z fits ∙ c.from.ensures ∙ ap pos c.length_of.ensures) c.set.ensures)
     d

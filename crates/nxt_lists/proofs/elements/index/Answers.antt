@@ -11,16 +11,16 @@ use Rattle.nxt_lists.proofs.elements.index.Goals as goal
 pub store-requires-clause-countable : goal.store-requires-clause-countable
 store-requires-clause-countable c =
     let found = c.in_ok-flat in
-    (index_storable c.args.space.now c.args.dest c.args.list c.word_or.result found.flat c.requires.sound c.requires.dest c.requires.list c.requires.of_list c.requires.fit found.ensures.within found.ensures.past).countable
+    (index_storable c.args.space.now.vars c.args.dest c.args.list c.word_or.result found.flat c.requires.sound c.requires.dest c.requires.list c.requires.of_list c.requires.fit found.ensures.within found.ensures.past).countable
 
 pub returns : goal.returns
 returns c d =
-    let s = c.args.space.now in
+    let s = c.args.space.now.vars in
     let k = c.word_or.result in
     let found = c.in_ok-flat in
     let e = index_storable s c.args.dest c.args.list k found.flat c.requires.sound c.requires.dest c.requires.list c.requires.of_list c.requires.fit found.ensures.within found.ensures.past in
     subst
-    (λ n. Gives s c.args.dest (slice_index_or (elements (value_of s c.args.list)) n (zero_of (element (shape_of s c.args.list)))) c.store.result c.store.new.space)
+    (λ n. Gives c.args.space.now c.args.dest (slice_index_or (elements (value_of s c.args.list)) n (zero_of (element (shape_of s c.args.list)))) c.store.result c.store.new.space)
     c.word_or.ensures
-    (spelled_given s c.store.new.space c.args.dest (slice_index_or (elements (value_of s c.args.list)) k (zero_of (element (shape_of s c.args.list)))) found.flat c.store.result e c.store.ensures)
+    (spelled_given c.args.space.now c.store.new.space c.args.dest (slice_index_or (elements (value_of s c.args.list)) k (zero_of (element (shape_of s c.args.list)))) found.flat c.store.result e c.store.ensures)
     d

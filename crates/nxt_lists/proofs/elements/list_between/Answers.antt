@@ -10,7 +10,7 @@ use Rattle.nxt_lists.proofs.elements.list_between.Goals as goal
 
 pub returns : goal.returns
 returns c =
-    let xs = elements (value_of c.args.space.now c.args.list) in
+    let xs = elements (value_of c.args.space.now.vars c.args.list) in
     let fits : SFits w64 c.from.result = search rules in
     behind_count
     (slice_range xs c.args.from c.args.to)

@@ -12,7 +12,7 @@ use Rattle.nxt_lists.proofs.elements.overwritten.Goals as goal
 
 pub returns : goal.returns
 returns c =
-    let s = c.args.space.now in
+    let s = c.args.space.now.vars in
     let xs = elements (value_of s c.args.list) in
     let ys = pieces (shape_of s c.args.list) (given s c.args.new) in
     let fits : SFits w64 c.from.result = search rules in

@@ -15,14 +15,14 @@ use Rattle.nxt_lists.proofs.elements.replace.Goals as goal
 
 pub store-requires-clause-countable : goal.store-requires-clause-countable
 store-requires-clause-countable c =
-    let s = c.args.space.now in
+    let s = c.args.space.now.vars in
     let vs = overwritten (elements (value_of s c.args.list)) c.word_or.result (pieces (shape_of s c.args.list) (given s c.args.new)) in
     let are = overwritten_for s c.args.dest c.args.list c.word_or.result c.args.new c.requires.sound c.requires.list c.requires.new c.requires.of_list c.requires.fit c.requires.goes in
     (list_storable s c.args.dest vs c.in_ok-flat.flat c.requires.sound c.requires.dest are c.in_ok-flat.ensures).countable
 
 pub returns : goal.returns
 returns c d =
-    let s = c.args.space.now in
+    let s = c.args.space.now.vars in
     let xs = elements (value_of s c.args.list) in
     let new = value_of s c.args.new in
     let vs = overwritten xs c.word_or.result (pieces (shape_of s c.args.list) (given s c.args.new)) in
@@ -30,8 +30,8 @@ returns c d =
     let e = list_storable s c.args.dest vs c.in_ok-flat.flat c.requires.sound c.requires.dest are c.in_ok-flat.ensures in
     let whole = convertible (element (shape_of s c.args.list)) (shape_of s c.args.new) in
     subst
-    (λ us. Gives s c.args.dest (list_of us) c.store.result c.store.new.space)
+    (λ us. Gives c.args.space.now c.args.dest (list_of us) c.store.result c.store.new.space)
     (sym (replaced_overwritten whole xs c.word_or.result new)
     ∙ ap (λ k. if whole then slice_set xs k new else overwritten xs k (elements new)) c.word_or.ensures)
-    (spelled_given s c.store.new.space c.args.dest (list_of vs) c.in_ok-flat.flat c.store.result e c.store.ensures)
+    (spelled_given c.args.space.now c.store.new.space c.args.dest (list_of vs) c.in_ok-flat.flat c.store.result e c.store.ensures)
     d

@@ -14,7 +14,7 @@ use Rattle.nxt_lists.proofs.elements.subset.Goals as goal
 
 pub store-requires-clause-countable : goal.store-requires-clause-countable
 store-requires-clause-countable c =
-    let s = c.args.space.now in
+    let s = c.args.space.now.vars in
     let from = c.min-from.result in
     let to = from + c.min-count.result in
     let vs = slice_range (elements (value_of s c.args.list)) from to in
@@ -23,7 +23,7 @@ store-requires-clause-countable c =
 
 pub returns : goal.returns
 returns c d =
-    let s = c.args.space.now in
+    let s = c.args.space.now.vars in
     let from = c.min-from.result in
     let to = from + c.min-count.result in
     let xs = elements (value_of s c.args.list) in
@@ -35,7 +35,7 @@ returns c d =
     ap₂ (λ i n. section i n xs) c.word_or.ensures (c.word_or-2.ensures ∙ ap (λ n. word_or n (given_or_left s c.args.count)) c.length_of-length.ensures)
     in
     subst
-    (λ us. Gives s c.args.dest (list_of us) c.store.result c.store.new.space)
+    (λ us. Gives c.args.space.now c.args.dest (list_of us) c.store.result c.store.new.space)
     (is ∙ words)
-    (spelled_given s c.store.new.space c.args.dest (list_of vs) c.in_ok-flat.flat c.store.result e c.store.ensures)
+    (spelled_given c.args.space.now c.store.new.space c.args.dest (list_of vs) c.in_ok-flat.flat c.store.result e c.store.ensures)
     d

@@ -8,7 +8,7 @@ use Rattle.nxt_lists.proofs.gathering.is_element.Goals as goal
 
 pub returns-in-Some-Some : goal.returns-in-Some-Some
 returns-in-Some-Some c =
-    let s = c.args.space.now in
+    let s = c.args.space.now.vars in
     c.has_element.ensures
     ∙ sym
     (ap₂
@@ -18,11 +18,11 @@ returns-in-Some-Some c =
 
 pub returns-in_default : goal.returns-in_default
 returns-in_default c =
-    let s = element_of (shape_of c.args.space.now c.args.list) in
-    no_void s ∙ ap (convertible s) (sym (untold (name_of c.args.space.now c.args.value) c.in_default.ensures'))
+    let s = element_of (shape_of c.args.space.now.vars c.args.list) in
+    no_void s ∙ ap (convertible s) (sym (untold (name_of c.args.space.now.vars c.args.value) c.in_default.ensures'))
 
 pub returns-in_default-2 : goal.returns-in_default-2
 returns-in_default-2 c =
     ap
-    (λ l. convertible (element_of l) (shape_of c.args.space.now c.args.value))
-    (sym (untold (name_of c.args.space.now c.args.list) c.in_default.ensures))
+    (λ l. convertible (element_of l) (shape_of c.args.space.now.vars c.args.value))
+    (sym (untold (name_of c.args.space.now.vars c.args.list) c.in_default.ensures))

@@ -6,12 +6,12 @@ use Rattle.nxt_lists.proofs.Between.{none_between, one_more}
 use Rattle.nxt_lists.proofs.gathering.push_elements.Goals as goal
 
 pub loop-k-init : goal.loop-k-init
-loop-k-init c = none_between (elements (value_of c.args.space.now c.args.list)) c.args.from _
+loop-k-init c = none_between (elements (value_of c.args.space.now.vars c.args.list)) c.args.from _
 
 pub loop-k-preserved : goal.loop-k-preserved
 loop-k-preserved c =
     one_more
-    (elements (value_of c.args.space.now c.args.list))
+    (elements (value_of c.args.space.now.vars c.args.list))
     c.args.from
     c.loop-k.k
     _

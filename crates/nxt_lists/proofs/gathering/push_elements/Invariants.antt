@@ -6,4 +6,4 @@ use Rattle.nxt_space.specs.Variables.{value_of}
 use Rattle.nxt_lists.proofs.gathering.push_elements.Given as goal
 
 abbrev pub invariant-loop-k : goal.invariant-loop-k
-invariant-loop-k l = l.flat ≡ l.initial.flat ++ flat_map flat (slice_range (elements (value_of l.space l.list)) l.from l.k)
+invariant-loop-k l = l.flat ≡ l.initial.flat ++ flat_map flat (slice_range (elements (value_of l.space.vars l.list)) l.from l.k)

@@ -9,13 +9,13 @@ use Rattle.nxt_lists.proofs.gathering.push_pieces.Goals as goal
 
 pub push_elements-requires-clause-of_list : goal.push_elements-requires-clause-of_list
 push_elements-requires-clause-of_list c =
-    let s = c.args.space.now in
+    let s = c.args.space.now.vars in
     let other = sym c.is_element.ensures ∙ c.if-not-is_element.true in
     (in_parts (shape_of s c.args.list) (shape_of s c.args.value) (value_of s c.args.value) c.requires.of_list other c.requires.fit).list
 
 pub returns-then-not-is_element-clause-count : goal.returns-then-not-is_element-clause-count
 returns-then-not-is_element-clause-count c =
-    let s = c.args.space.now in
+    let s = c.args.space.now.vars in
     let other = sym c.is_element.ensures ∙ c.if-not-is_element.true in
     let v = value_of s c.args.value in
     let parts = in_parts (shape_of s c.args.list) (shape_of s c.args.value) v c.requires.of_list other c.requires.fit in
@@ -23,7 +23,7 @@ returns-then-not-is_element-clause-count c =
 
 pub returns-clause-count : goal.returns-clause-count
 returns-clause-count c =
-    let s = c.args.space.now in
+    let s = c.args.space.now.vars in
     let fits = sym c.is_element.ensures ∙ c.if-not-is_element.false in
     let v = value_of s c.args.value in
     let whole = whole_piece (shape_of s c.args.list) (shape_of s c.args.value) v c.requires.of_list fits in
@@ -31,7 +31,7 @@ returns-clause-count c =
 
 pub returns-clause-flat : goal.returns-clause-flat
 returns-clause-flat c =
-    let s = c.args.space.now in
+    let s = c.args.space.now.vars in
     let fits = sym c.is_element.ensures ∙ c.if-not-is_element.false in
     let v = value_of s c.args.value in
     let whole = whole_piece (shape_of s c.args.list) (shape_of s c.args.value) v c.requires.of_list fits in

@@ -9,4 +9,4 @@ use Rattle.nxt_operands.proofs.operands.stride_at.Goals as goal
 pub returns-in-Some : goal.returns-in-Some
 returns-in-Some c =
     c.stride.ensures
-    ∙ ap stride_of (sym (told (name_of c.args.space.now c.args.i) (tree c.in-Some.shape.now) c.in-Some.ensures))
+    ∙ ap stride_of (sym (told (name_of c.args.space.now.vars c.args.i) (tree c.in-Some.shape.now) c.in-Some.ensures))

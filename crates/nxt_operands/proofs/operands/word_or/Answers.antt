@@ -11,4 +11,4 @@ pub returns-else-i-eq-LEFT_OUT : goal.returns-else-i-eq-LEFT_OUT
 returns-else-i-eq-LEFT_OUT c =
     c.wrap.ensures
     ∙ ap word (to_z-of_z {w = w64} {z = c.get.result} (record { sfits = c.get.type_inv }) ∙ c.get.ensures)
-    ∙ sym (ap (λ b. word_or c.args.other (if b then Left else given c.args.space.now c.args.i)) (ne_eqb c.args.i 0xFFFF c.if-i-eq-LEFT_OUT.false))
+    ∙ sym (ap (λ b. word_or c.args.other (if b then Left else given c.args.space.now.vars c.args.i)) (ne_eqb c.args.i 0xFFFF c.if-i-eq-LEFT_OUT.false))

@@ -8,7 +8,7 @@ use Rattle.nxt_operands.proofs.reading.numbers_of.Goals as goal
 
 pub returns : goal.returns
 returns c =
-    let v = value_of c.args.space.now c.args.i in
+    let v = value_of c.args.space.now.vars c.args.i in
     let whole = c.as_slice.result.now in
     behind_first
     (pos (length (numbers_in v)))

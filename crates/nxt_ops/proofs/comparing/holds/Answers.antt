@@ -15,7 +15,7 @@ use Rattle.nxt_ops.proofs.comparing.holds.Goals as goal
 
 pub returns-then-is_number : goal.returns-then-is_number
 returns-then-is_number c =
-    let s = c.args.space.now in
+    let s = c.args.space.now.vars in
     let x = value_of s c.args.x in
     let y = value_of s c.args.y in
     let fx : SFits w64 c.get.result = search rules in
@@ -52,19 +52,19 @@ returns-then-is_number c =
 
 pub numbers_of-requires-clause-list : goal.numbers_of-requires-clause-list
 numbers_of-requires-clause-list c =
-    let s = c.args.space.now in
+    let s = c.args.space.now.vars in
     let other = sym c.is_number.ensures ∙ c.if-is_number.false in
     variable_numbers s c.args.x c.requires.sound c.requires.x (alike_numbers (shape_of s c.args.x) (shape_of s c.args.y) c.requires.fit other).0
 
 pub numbers_of-requires-2-clause-list : goal.numbers_of-requires-2-clause-list
 numbers_of-requires-2-clause-list c =
-    let s = c.args.space.now in
+    let s = c.args.space.now.vars in
     let other = sym c.is_number.ensures ∙ c.if-is_number.false in
     variable_numbers s c.args.y c.requires.sound c.requires.y (alike_numbers (shape_of s c.args.x) (shape_of s c.args.y) c.requires.fit other).1
 
 pub returns : goal.returns
 returns c =
-    let s = c.args.space.now in
+    let s = c.args.space.now.vars in
     let x = value_of s c.args.x in
     let y = value_of s c.args.y in
     let f0 : SFits w64 c.deciding-a.result.0 = search rules in

@@ -8,21 +8,21 @@ use Rattle.nxt_ops.proofs.lists.combine_lists.Goals as goal
 
 pub words_of-requires-clause-plain_x : goal.words_of-requires-clause-plain_x
 words_of-requires-clause-plain_x c =
-    let s = c.args.space.now in
+    let s = c.args.space.now.vars in
     (are_listed c.args.operator (shape_of s c.args.dest) (shape_of s c.args.x) (shape_of s c.args.y) c.requires.list c.requires.fit).first
 
 pub words_of-requires-clause-plain_y : goal.words_of-requires-clause-plain_y
 words_of-requires-clause-plain_y c =
-    let s = c.args.space.now in
+    let s = c.args.space.now.vars in
     (are_listed c.args.operator (shape_of s c.args.dest) (shape_of s c.args.x) (shape_of s c.args.y) c.requires.list c.requires.fit).second
 
 pub store-requires-clause-countable : goal.store-requires-clause-countable
 store-requires-clause-countable c =
-    (two_storable c.args.space.now c.args.operator c.args.dest c.args.x c.args.y c.either_has_signed_elements-signed.result c.in_ok-flat.flat c.requires.sound c.requires.dest c.requires.x c.requires.y c.requires.list c.requires.fit c.either_has_signed_elements-signed.ensures c.in_ok-flat.ensures).countable
+    (two_storable c.args.space.now.vars c.args.operator c.args.dest c.args.x c.args.y c.either_has_signed_elements-signed.result c.in_ok-flat.flat c.requires.sound c.requires.dest c.requires.x c.requires.y c.requires.list c.requires.fit c.either_has_signed_elements-signed.ensures c.in_ok-flat.ensures).countable
 
 pub returns : goal.returns
 returns c =
-    let s = c.args.space.now in
+    let s = c.args.space.now.vars in
     let v = value_of_two c.args.operator (shape_of s c.args.dest) (given s c.args.x) (given s c.args.y) in
     let e = two_storable s c.args.operator c.args.dest c.args.x c.args.y c.either_has_signed_elements-signed.result c.in_ok-flat.flat c.requires.sound c.requires.dest c.requires.x c.requires.y c.requires.list c.requires.fit c.either_has_signed_elements-signed.ensures c.in_ok-flat.ensures in
-    spelled_stored s c.store.new.space c.args.dest v c.in_ok-flat.flat c.store.result e c.store.ensures
+    spelled_stored c.args.space.now c.store.new.space c.args.dest v c.in_ok-flat.flat c.store.result e c.store.ensures

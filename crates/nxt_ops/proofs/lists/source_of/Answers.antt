@@ -6,7 +6,7 @@ use Rattle.nxt_ops.proofs.lists.source_of.Goals as goal
 
 pub numbers_of-requires-clause-list : goal.numbers_of-requires-clause-list
 numbers_of-requires-clause-list c =
-    let s = c.args.space.now in
+    let s = c.args.space.now.vars in
     let other = sym c.is_number.ensures ∙ c.if-is_number.false in
     variable_numbers
     s

@@ -10,11 +10,11 @@ use Rattle.nxt_ops.proofs.run.change.Goals as goal
 
 pub returns : goal.returns
 returns c =
-    let s = c.args.space.now in
+    let s = c.args.space.now.vars in
     let d = shape_of s c.args.dest in
     let is = sym c.is_number.ensures ∙ c.if-not-is_number.false in
     let kind = c.has_sign.ensures in
     let read = to_z-of_z {w = w64} {z = c.get.result} (record { sfits = c.get.type_inv }) ∙ c.get.ensures in
     let word = ap pos c.word-word.ensures ∙ one_word c.args.operator d (shape_of s c.args.x) (value_of s c.args.x) c.has_sign.result _ is kind read in
     let given_word = to_z-of_z {w = w64} {z = c.from.result} (record { sfits = c.from.type_inv }) ∙ c.from.ensures ∙ word in
-    number_set s c.set.new.self c.args.dest (value_of_one c.args.operator d (given s c.args.x)) _ c.requires.sound is given_word c.set.ensures
+    number_set c.args.space.now c.set.new.self c.args.dest (value_of_one c.args.operator d (given s c.args.x)) _ c.requires.sound is given_word c.set.ensures

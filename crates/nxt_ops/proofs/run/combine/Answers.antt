@@ -13,13 +13,13 @@ use Rattle.nxt_ops.proofs.run.combine.Goals.{in-Compare+in_ok-holds-in-Compare, 
 
 pub holds-requires-clause-fit : goal.holds-requires-clause-fit
 holds-requires-clause-fit c =
-    let s = c.args.space.now in
+    let s = c.args.space.now.vars in
     let is = sym c.is_number.ensures ∙ c.if-not-is_number.false in
     are_compared c.args.operator c.in-Compare.cmp (shape_of s c.args.dest) (shape_of s c.args.x) (shape_of s c.args.y) c.in-Compare.is is c.requires.fit
 
 pub returns : goal.returns
 returns c =
-    let s = c.args.space.now in
+    let s = c.args.space.now.vars in
     let d = shape_of s c.args.dest in
     let t = shape_of s c.args.x in
     let u = shape_of s c.args.y in
@@ -43,4 +43,4 @@ returns c =
           ∙ two_word c.args.operator w.in-Calculate.field-0 d t u (value_of s c.args.x) (value_of s c.args.y) w.if-has_sign.signed _ _ w.in-Calculate.is is kinds one two
     ] in
     let given_word = to_z-of_z {w = w64} {z = c.from.result} (record { sfits = c.from.type_inv }) ∙ c.from.ensures ∙ word in
-    number_set s c.set.new.self c.args.dest v _ c.requires.sound is given_word c.set.ensures
+    number_set c.args.space.now c.set.new.self c.args.dest v _ c.requires.sound is given_word c.set.ensures

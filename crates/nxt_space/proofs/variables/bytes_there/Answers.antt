@@ -7,7 +7,7 @@ pub returns-in-List : goal.returns-in-List
 returns-in-List c =
     list_bytes_read
     c.args.entries.now
-    c.args.heap.now
+    c.args.heap.now.lists
     (tree c.args.shape.now)
     c.args.at
     c.list_row.result

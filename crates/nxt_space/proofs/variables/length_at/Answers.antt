@@ -21,4 +21,4 @@ pub returns-in-Group : goal.returns-in-Group
 returns-in-Group c =
     let l = c.as_slice.result.now in
     let is : tree c.args.shape.now ≡ cluster_of (map tree l) = group_tree c.args.shape.now c.in-Group.members.items l c.in-Group.is c.as_slice.ensures.value in
-    group_length c.args.entries.now c.args.heap.now (map tree l) (tree c.args.shape.now) c.args.at (length l) is (sym (length-map l tree))
+    group_length c.args.entries.now c.args.heap.now.lists (map tree l) (tree c.args.shape.now) c.args.at (length l) is (sym (length-map l tree))

@@ -17,7 +17,7 @@ use Rattle.nxt_texts.proofs.numerals.string_to_number.Goals as goal
 
 pub returns : goal.returns
 returns c d =
-    let s = c.args.space.now in
+    let s = c.args.space.now.vars in
     let at = word_or 0 (given_or_left s c.args.offset) in
     let default = given_or_left s c.args.default in
     let found = c.unwrap_or-found.result in
@@ -48,7 +48,7 @@ returns c d =
     ∙ to_z_pos w64 (place + found.length) (omega (arith, short, c.word_or-at.type_inv))
     in
     found_stored
-    s
+    c.args.space.now
     c.set.new.self
     c.set_unless_left_out.new.space
     c.args.dest
@@ -64,4 +64,4 @@ returns c d =
     read
     (c.set.ensures ∙ ap {A = ℤ} (λ z. record s { values = with_value s c.args.dest (stored (shape_of s c.args.dest) (Num z)) }) word)
     (c.set_unless_left_out.ensures
-    ∙ ap (with_number c.set.new.self c.args.past) (behind ∙ ap (λ n. pos (n + found.length)) c.word_or-at.ensures))
+    ∙ ap (with_number c.set.new.self.vars c.args.past) (behind ∙ ap (λ n. pos (n + found.length)) c.word_or-at.ensures))

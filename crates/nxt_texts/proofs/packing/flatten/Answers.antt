@@ -14,4 +14,4 @@ returns c =
 
 pub store_text-requires-clause-few : goal.store_text-requires-clause-few
 store_text-requires-clause-few c =
-    omega (arith, packed_bounded c.args.space.now c.args.value c.requires.sound, ap length (c.as_slice.ensures ∙ c.in_ok-bytes.ensures))
+    omega (arith, packed_bounded c.args.space.now.vars c.args.value c.requires.sound, ap length (c.as_slice.ensures ∙ c.in_ok-bytes.ensures))

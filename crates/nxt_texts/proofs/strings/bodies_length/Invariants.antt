@@ -7,6 +7,6 @@ use Rattle.nxt_texts.proofs.strings.bodies_length.Given as goal
 abbrev pub invariant-loop-source : goal.invariant-loop-source
 invariant-loop-source l =
     record {
-      bodies : l.length ≡ length (bodies_at l.space (take l.source-index l.sources));
+      bodies : l.length ≡ length (bodies_at l.space.vars (take l.source-index l.sources));
       few : l.length ≤ pool_size * l.source-index;
     }

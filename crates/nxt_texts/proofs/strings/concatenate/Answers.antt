@@ -19,7 +19,7 @@ same_bodies s is = ap ended (sym (flat_map-map (λ o. body (text_of o)) (given s
 
 pub check_room-requires-clause-countable : goal.check_room-requires-clause-countable
 check_room-requires-clause-countable c =
-    let s = c.args.space.now in
+    let s = c.args.space.now.vars in
     bytes_countable
     (shape_of s c.args.dest)
     (c.in_ok-length.length + 1)
@@ -28,23 +28,23 @@ check_room-requires-clause-countable c =
 
 pub returns-in_err-check_room : goal.returns-in_err-check_room
 returns-in_err-check_room c d =
-    let s = c.args.space.now in
+    let s = c.args.space.now.vars in
     let bytes = bodies_at s c.args.sources.now in
     let w = stored (shape_of s c.args.dest) (byte_list (ended bytes)) in
     let long : c.in_ok-length.length + 1 ≡ length (ended bytes) = ap (λ n. n + 1) c.in_ok-length.ensures.length ∙ sym (length_push bytes 0) in
     let size = bytes_size (shape_of s c.args.dest) (ended bytes) (c.in_ok-length.length + 1) c.requires.text long in
     let passed = c.from_residual-in_err-check_room in
     subst
-    (λ bs. StoresBytes s c.args.dest bs passed.result s)
+    (λ bs. StoresBytes c.args.space.now c.args.dest bs passed.result c.args.space.now)
     (same_bodies s c.args.sources.now)
-    (given_stored s s c.args.dest (byte_list (ended bytes)) passed.result
-    (passed_on Done Done (with_value s c.args.dest w) s s c.in_err-check_room.field-0.0 passed.result passed.ensures.1 (c.in_err-check_room.ensures.refused w size)))
+    (given_stored c.args.space.now c.args.space.now c.args.dest (byte_list (ended bytes)) passed.result
+    (passed_on Done Done (with_value s c.args.dest w) c.args.space.now c.args.space.now c.in_err-check_room.field-0.0 passed.result passed.ensures.1 (c.in_err-check_room.ensures.refused w size)))
     d
 
 pub returns : goal.returns
 returns c =
-    let s = c.args.space.now in
+    let s = c.args.space.now.vars in
     subst
-    (λ bs. StoresBytes s c.args.dest bs c.store_text.result c.store_text.new.space)
+    (λ bs. StoresBytes c.args.space.now c.args.dest bs c.store_text.result c.store_text.new.space)
     (ap ended (c.as_slice.ensures ∙ c.in_ok-bytes.ensures) ∙ same_bodies s c.args.sources.now)
     c.store_text.ensures

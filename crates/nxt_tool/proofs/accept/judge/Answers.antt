@@ -1,5 +1,5 @@
 -- What breaks no rule is judged, and a fault has its cause.
-use Rattle.std.proofs.Common.{◌≡◌, ◌⊎◌, sym, ap, ◌∙◌, subst, arith}
+use Rattle.std.proofs.Common.{◌≡◌, ◌⊎◌, sym, ap, ◌∙◌, subst}
 use Rattle.nxt_types.specs.Refusals.{IsAccepted, IsRefusal}
 use Rattle.nxt_types.specs.Tables.{Table}
 use Rattle.nxt_rxe.specs.declared.parts.Parts.{Parts}

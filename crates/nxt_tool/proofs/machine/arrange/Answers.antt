@@ -20,7 +20,7 @@ run_array-requires c =
     let p = c.args.program.now in
     let x = c.args.placed in
     subst
-    (λ ws. CanRun x.instr ws p.toc p.space)
+    (λ ws. CanRun x.instr ws p.toc p.space.vars)
     (sym c.words.ensures)
     (record {
       runs = c.requires.on_lists;
@@ -36,7 +36,7 @@ returns-in-Ok-clause-next c motors clock turn =
     let x = c.args.placed in
     let at = placed_at p.code.words p.code.decoded c.requires.program.code c.args.place x c.requires.at in
     moved p.space p.code.words motors clock c.args.place turn x.word x.instr c.requires.on_lists at c.run_array.new.space
-    (subst (λ ws. Does {T = Unit {0}} Done (values_after p.space x.instr ws (devices_of motors) (record { now = clock; start = 0 })) p.space (Ok tt) c.run_array.new.space)
+    (subst (λ ws. Does {T = Unit {0}} Done (values_after p.space.vars x.instr ws (devices_of motors) (record { now = clock; start = 0 })) p.space (Ok tt) c.run_array.new.space)
     c.words.ensures (c.in-Ok.ensures (devices_of motors) (record { now = clock; start = 0 })))
 
 pub returns-in-Err-PoolPassed-clause-next : goal.returns-in-Err-PoolPassed-clause-next
@@ -46,13 +46,13 @@ returns-in-Err-PoolPassed-clause-next c motors clock turn =
     let at = placed_at p.code.words p.code.decoded c.requires.program.code c.args.place x c.requires.at in
     was_refused p.space p.code.words motors clock c.args.place turn x.word x.instr c.requires.on_lists at
     c.run_array.new.space c.in-Err-PoolPassed.size c.requires.sound
-    (subst (λ ws. Does {T = Unit {0}} Done (values_after p.space x.instr ws (devices_of motors) (record { now = clock; start = 0 })) p.space (Err (PoolPassed c.in-Err-PoolPassed.size)) c.run_array.new.space)
+    (subst (λ ws. Does {T = Unit {0}} Done (values_after p.space.vars x.instr ws (devices_of motors) (record { now = clock; start = 0 })) p.space (Err (PoolPassed c.in-Err-PoolPassed.size)) c.run_array.new.space)
     c.words.ensures
     (subst
-    (λ e. Does {T = Unit {0}} Done (values_after p.space x.instr c.words.result.now (devices_of motors) (record { now = clock; start = 0 })) p.space (Err e) c.run_array.new.space)
+    (λ e. Does {T = Unit {0}} Done (values_after p.space.vars x.instr c.words.result.now (devices_of motors) (record { now = clock; start = 0 })) p.space (Err e) c.run_array.new.space)
     c.in-Err-PoolPassed.field-0-is
     (c.in-Err-PoolPassed.ensures (devices_of motors) (record { now = clock; start = 0 }))))
-    ∙ ap (λ n. stop (Memory n) (state_of c.run_array.new.space motors clock (c.args.place + 1) (turn_after turn) None)) (sym c.in-Err-PoolPassed.size-is)
+    ∙ ap (λ n. stop (Memory n) (state_of c.run_array.new.space.vars motors clock (c.args.place + 1) (turn_after turn) None)) (sym c.in-Err-PoolPassed.size-is)
 
 pub returns-in-Ok-clause-program : goal.returns-in-Ok-clause-program
 returns-in-Ok-clause-program c =

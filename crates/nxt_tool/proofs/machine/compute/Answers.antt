@@ -61,7 +61,7 @@ returns-in-Err-PoolPassed-clause-next c motors clock turn =
     (λ e. Tells p.space p.code.words motors clock c.args.place turn c.args.placed.word c.args.placed.instr c.requires.computes at (Err e) c.run_op.new.space)
     c.in-Err-PoolPassed.field-0-is
     (c.in-Err-PoolPassed.ensures (devices_of motors) (record { now = clock; start = 0 })))
-    ∙ ap (λ n. stop (Memory n) (state_of c.run_op.new.space motors clock (c.args.place + 1) (turn_after turn) None)) (sym c.in-Err-PoolPassed.bytes-is)
+    ∙ ap (λ n. stop (Memory n) (state_of c.run_op.new.space.vars motors clock (c.args.place + 1) (turn_after turn) None)) (sym c.in-Err-PoolPassed.bytes-is)
 
 pub returns-in-Ok-Fall-clause-program : goal.returns-in-Ok-Fall-clause-program
 returns-in-Ok-Fall-clause-program c =

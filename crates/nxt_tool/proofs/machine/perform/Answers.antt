@@ -21,8 +21,8 @@ use Rattle.nxt_tool.proofs.machine.perform.Goals as goal
 there : (p : Program) → IsProgram p → (place : ℕ) (x : StatementAt) → slice_get p.code.decoded.placed.items place ≡ Some x → slice_get (statements p.code.words) place ≡ Some (placed_of p.code.words x)
 there p is place x at = placed_at p.code.words p.code.decoded is.code place x at
 
-built : (p : Program) → IsProgram p → (place : ℕ) (x : StatementAt) → slice_get p.code.decoded.placed.items place ≡ Some x → is_built p.space.shapes (statement_of x.instr p.code.words) ≡ true
-built p is place x at = built_at p.space.shapes (statements p.code.words) place (placed_of p.code.words x) is.built (there p is place x at)
+built : (p : Program) → IsProgram p → (place : ℕ) (x : StatementAt) → slice_get p.code.decoded.placed.items place ≡ Some x → is_built p.space.vars.shapes (statement_of x.instr p.code.words) ≡ true
+built p is place x at = built_at p.space.vars.shapes (statements p.code.words) place (placed_of p.code.words x) is.built (there p is place x at)
 
 pub compute-requires : goal.compute-requires
 compute-requires c =
@@ -32,7 +32,7 @@ compute-requires c =
       program = c.requires.program;
       sound = c.requires.sound;
       computes =
-          computes_there p.space.shapes (statement_of i p.code.words) (built p c.requires.program c.args.place c.args.placed c.requires.at)
+          computes_there p.space.vars.shapes (statement_of i p.code.words) (built p c.requires.program c.args.place c.args.placed c.requires.at)
           (sym c.runs.ensures ∙ c.if-runs.false) c.in_default.not-Stop c.in_default.not-Finclump c.in_default.not-Setout;
       last = c.requires.last;
       at = c.requires.at;
@@ -43,28 +43,28 @@ returns-then-stops-clause-next c clock turn =
     let p = c.args.program.now in
     let x = c.args.placed in
     let at = there p c.requires.program c.args.place x c.requires.at ∙ ap (λ st. Some (x.word, st)) (stop_is x.instr p.code.words c.in-Stop.is) in
-    stop_step p.space p.code.words c.args.motors.now clock c.args.place turn c.requires.sound x.instr.cmp _ x.word true at (sym c.stops.ensures ∙ c.if-stops.true)
+    stop_step p.space.vars p.code.words c.args.motors.now clock c.args.place turn c.requires.sound x.instr.cmp _ x.word true at (sym c.stops.ensures ∙ c.if-stops.true)
 
 pub returns-else-stops-clause-next : goal.returns-else-stops-clause-next
 returns-else-stops-clause-next c clock turn =
     let p = c.args.program.now in
     let x = c.args.placed in
     let at = there p c.requires.program c.args.place x c.requires.at ∙ ap (λ st. Some (x.word, st)) (stop_is x.instr p.code.words c.in-Stop.is) in
-    stop_step p.space p.code.words c.args.motors.now clock c.args.place turn c.requires.sound x.instr.cmp _ x.word false at (sym c.stops.ensures ∙ c.if-stops.false)
+    stop_step p.space.vars p.code.words c.args.motors.now clock c.args.place turn c.requires.sound x.instr.cmp _ x.word false at (sym c.stops.ensures ∙ c.if-stops.false)
 
 pub returns-in-Finclump-clause-next : goal.returns-in-Finclump-clause-next
 returns-in-Finclump-clause-next c clock turn =
     let p = c.args.program.now in
     let x = c.args.placed in
     let at = there p c.requires.program c.args.place x c.requires.at ∙ ap (λ st. Some (x.word, st)) (finish_is x.instr p.code.words c.in-Finclump.is) in
-    finish_step p.space p.code.words c.args.motors.now clock c.args.place turn c.requires.sound x.instr.cmp _ x.word at
+    finish_step p.space.vars p.code.words c.args.motors.now clock c.args.place turn c.requires.sound x.instr.cmp _ x.word at
 
 pub returns-in-Setout-clause-next : goal.returns-in-Setout-clause-next
 returns-in-Setout-clause-next c clock turn =
     let p = c.args.program.now in
     let x = c.args.placed in
     let i = x.instr in
-    let s = p.space in
+    let s = p.space.vars in
     let ps = slice_range p.code.words i.rest_at (i.rest_at + i.rest) in
     let at = there p c.requires.program c.args.place x c.requires.at ∙ ap (λ st. Some (x.word, st)) (setout_is i p.code.words c.in-Setout.is) in
     let named = port_named s.shapes i p.code.words c.in-Setout.is (built p c.requires.program c.args.place x c.requires.at) in

@@ -7,7 +7,7 @@ use Rattle.nxt_tool.proofs.machine.store_pairs.Goals as goal
 
 pub loop-k-preserved : goal.loop-k-preserved
 loop-k-preserved c =
-    let s = c.args.space.now in
+    let s = c.args.space.now.vars in
     let args = (statement_of c.args.instr.now c.args.words.now).args in
     let stored : c.set_property.new.self ≡ set_property c.operand.result c.number.result c.loop-k.motor = search rules in
     let named = c.number.ensures ∙ ap (number_at s) c.operand-in-loop-k.ensures in
@@ -22,5 +22,5 @@ loop-k-preserved c =
 pub returns : goal.returns
 returns c =
     let args = (statement_of c.args.instr.now c.args.words.now).args in
-    sym (pairs_done c.args.space.now args c.loop-k.k c.loop-k.motor (omega (arith, c.loop-k-test.false, c.operand_count-count.ensures.count)))
+    sym (pairs_done c.args.space.now.vars args c.loop-k.k c.loop-k.motor (omega (arith, c.loop-k-test.false, c.operand_count-count.ensures.count)))
     ∙ c.loop-k.invariant.same

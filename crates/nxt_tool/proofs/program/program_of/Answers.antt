@@ -1,5 +1,5 @@
 -- What is made runs, and is at its start.
-use Rattle.std.proofs.Common.{◌≡◌, ◌<◌, [], true, false, length, ap, ap₂, sym, ◌∙◌, subst, arith}
+use Rattle.std.proofs.Common.{◌≡◌, ◌<◌, [], true, length, ap, ap₂, sym, ◌∙◌, subst, arith}
 use Rattle.std.specs.List.{list_all}
 use Rattle.std.proofs.lemmas.Bool.{and_left, and_right}
 use Rattle.nxt_types.specs.Shapes.{Members}
@@ -61,7 +61,7 @@ returns-clause-made c =
 
 pub returns-clause-image : goal.returns-clause-image
 returns-clause-image c p j =
-    made_image p c.args.layout j.layout c.in_ok-space.space c.args.code.words j.counts (only c p j) (c.in_ok-space.ensures.start p j.layout) j.words
+    made_image p c.args.layout j.layout c.in_ok-space.space.vars c.args.code.words j.counts (only c p j) (c.in_ok-space.ensures.start p j.layout) j.words
 
 pub returns-clause-runs : goal.returns-clause-runs
 returns-clause-runs c p j = made_runs p c.args.layout.shapes (only c p j) (built c p j)

@@ -1,5 +1,4 @@
 -- The clump starts at the statement.
-use Rattle.std.proofs.Common.{◌≡◌, [], ◌∷◌}
 use Rattle.nxt_trials_run.proofs.Fitting.{fit_at_start}
 use Rattle.nxt_trials_run.proofs.statements.fit_statement.Goals as goal
 

@@ -3,4 +3,4 @@ use Rattle.std.proofs.Common.{◌≡◌}
 use Rattle.nxt_trials_run.proofs.statements.set_all.Given as goal
 
 abbrev pub invariant-loop-i : goal.invariant-loop-i
-invariant-loop-i g l = (l.space.entries ≡ l.fn.space.entries) × (l.space.shapes ≡ l.fn.space.shapes)
+invariant-loop-i g l = (l.space.vars.entries ≡ l.fn.space.vars.entries) × (l.space.vars.shapes ≡ l.fn.space.vars.shapes)

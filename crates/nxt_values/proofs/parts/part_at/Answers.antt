@@ -6,7 +6,7 @@ use Rattle.std.proofs.lemmas.List.{drop_more}
 use mir.Val.{SFits}
 use Rattle.nxt_types.specs.Shapes.{tree, Array}
 use Rattle.nxt_model.specs.Values.{Num, elements, part}
-use Rattle.nxt_values.specs.Homes.{value_there}
+use Rattle.nxt_values.specs.Regions.{value_there}
 use Rattle.nxt_values.specs.Parts.{positions}
 use Rattle.nxt_values.proofs.Read.Parts.{PartLeft, no_list, part_more}
 use Rattle.nxt_values.proofs.parts.part_at.Goals.{in-List, in_default}
@@ -15,7 +15,7 @@ use Rattle.nxt_values.proofs.parts.part_at.Goals as goal
 pub loop-step-preserved : goal.loop-step-preserved
 loop-step-preserved c =
     let table = c.args.entries.now in
-    let h = c.args.heap.now in
+    let h = c.args.heap.now.lists in
     let xs = c.args.steps.now in
     let i = c.loop-step.step-index in
     let rest = positions (drop (i + 1) xs) in
@@ -47,7 +47,7 @@ loop-step-preserved c =
           rest
           whole
           (subst (λ s. PartLeft table h s c.loop-step.at (nat_abs x ∷ rest) whole) is left)
-          w.element_at-at.ensures.home
+          w.element_at-at.ensures.region
           w.element_at-at.ensures.entry
           w.element_at-at.ensures.holds
           (w.element_at-at.ensures.value ∙ ap (λ n. get_or (elements (value_there table h list c.loop-step.at)) n (Num (pos 0))) k)

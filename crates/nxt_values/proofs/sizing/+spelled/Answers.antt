@@ -6,7 +6,7 @@ use Rattle.nxt_types.specs.Names.{size, sizes}
 use Rattle.nxt_values.specs.Fills.{filled, all_filled}
 use Rattle.nxt_values.specs.Sizes.{IsCountable, size_of_filled, size_of_all_filled}
 use Rattle.nxt_types.proofs.Laws.Trees.{group_tree}
-use Rattle.nxt_values.proofs.Laws.Sizes.{MembersSpelled, spelled_group_countable, spelled_begin, spelled_next, spelled_added, element_countable, element_adds, member_countable}
+use Rattle.nxt_values.proofs.Laws.Sizes.{MembersSpelled, spelled_group_countable, spelled_begin, spelled_next, spelled_added, element_countable, element_adds, member_countable, numbers_spelled}
 use Rattle.nxt_values.proofs.sizing.+spelled.Goals as goal
 
 -- ---- lists
@@ -26,7 +26,7 @@ spelled_size-loop-init t c =
 
 pub spelled_size-spelled_size-requires : goal.spelled_size-spelled_size-requires
 spelled_size-spelled_size-requires t c =
-    let same = ap tree c.deref.ensures in
+    let same = ap tree c.deref-in-loop.ensures in
     let less = ap size (ap tree c.in-List.is ∙ ap (Array c.in-List.stride) (sym same)) in (
       omega (arith, less),
       subst
@@ -37,19 +37,36 @@ spelled_size-spelled_size-requires t c =
 
 pub spelled_size-plus-inner-requires-clause-lists : goal.spelled_size-plus-inner-requires-clause-lists
 spelled_size-plus-inner-requires-clause-lists t c =
-    (element_adds (spelled_next (omega arith) c.loop.invariant).elements c.requires (rw c.deref.ensures at c.spelled_size.ensures.size)).lists
+    (element_adds (spelled_next (omega arith) c.loop.invariant).elements c.requires (rw c.deref-in-loop.ensures at c.spelled_size.ensures.size)).lists
 
 pub spelled_size-plus-inner-requires-clause-bytes : goal.spelled_size-plus-inner-requires-clause-bytes
 spelled_size-plus-inner-requires-clause-bytes t c =
-    (element_adds (spelled_next (omega arith) c.loop.invariant).elements c.requires (rw c.deref.ensures at c.spelled_size.ensures.size)).bytes
+    (element_adds (spelled_next (omega arith) c.loop.invariant).elements c.requires (rw c.deref-in-loop.ensures at c.spelled_size.ensures.size)).bytes
 
 pub spelled_size-loop-preserved : goal.spelled_size-loop-preserved
 spelled_size-loop-preserved t c =
     spelled_added
     (spelled_next (omega arith) c.loop.invariant)
-    (rw c.deref.ensures at c.spelled_size.ensures.size)
-    (rw c.deref.ensures at c.spelled_size.ensures.rest)
+    (rw c.deref-in-loop.ensures at c.spelled_size.ensures.size)
+    (rw c.deref-in-loop.ensures at c.spelled_size.ensures.rest)
     c.plus-inner.ensures
+
+pub spelled_size-in_list-requires-clause-bytes : goal.spelled_size-in_list-requires-clause-bytes
+spelled_size-in_list-requires-clause-bytes t c =
+    let all = spelled_begin (tree c.in-List.element.value) (tree c.args.shape.now) c.in-List.stride c.first_count-count.result c.args.from.now c.behind-left.result.now (ap tree c.in-List.is) c.first_count-count.ensures c.behind-left.ensures in
+    omega (arith, all.elements.bytes, c.requires.bytes)
+
+pub spelled_size-returns-then-is_number-clause-size : goal.spelled_size-returns-then-is_number-clause-size
+spelled_size-returns-then-is_number-clause-size t c =
+    let numbers = sym (rw c.deref.ensures at c.is_number.ensures) ∙ c.if-is_number.true in
+    let all = spelled_begin (tree c.in-List.element.value) (tree c.args.shape.now) c.in-List.stride c.first_count-count.result c.args.from.now c.behind-left.result.now (ap tree c.in-List.is) c.first_count-count.ensures c.behind-left.ensures in
+    c.in_list.ensures ∙ (numbers_spelled numbers all).size
+
+pub spelled_size-returns-then-is_number-clause-rest : goal.spelled_size-returns-then-is_number-clause-rest
+spelled_size-returns-then-is_number-clause-rest t c =
+    let numbers = sym (rw c.deref.ensures at c.is_number.ensures) ∙ c.if-is_number.true in
+    let all = spelled_begin (tree c.in-List.element.value) (tree c.args.shape.now) c.in-List.stride c.first_count-count.result c.args.from.now c.behind-left.result.now (ap tree c.in-List.is) c.first_count-count.ensures c.behind-left.ensures in
+    c.behind_many.ensures ∙ (numbers_spelled numbers all).others
 
 -- ---- groups
 

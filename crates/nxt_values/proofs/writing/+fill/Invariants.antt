@@ -2,8 +2,9 @@
 use Rattle.std.proofs.Common.{◌+◌, ◌*◌, drop, map, length}
 use Rattle.nxt_types.specs.Shapes.{tree, members}
 use Rattle.nxt_types.specs.Names.{size, sizes}
-use Rattle.nxt_values.specs.Homes.{bytes_in}
-use Rattle.nxt_values.specs.Fills.{needs_for, needs_for_all, FillsThere, FillAllThere}
+use Rattle.nxt_values.specs.Regions.{bytes_in}
+use Rattle.nxt_values.specs.Fills.{needs_for_all, needs_for_each, FillAllThere}
+use Rattle.nxt_values.specs.Elements.{FillsElements}
 use Rattle.nxt_values.proofs.Fill.Steps.{ElementsLeft, MembersLeft}
 use Rattle.nxt_values.proofs.writing.+fill.Given as goal
 
@@ -13,30 +14,33 @@ decreases-fill l = 2 * size (tree l.shape.now)
 abbrev pub decreases-fill_members : goal.decreases-fill_members
 decreases-fill_members l = 2 * sizes (members (map tree l.shapes.now)) + 1
 
-abbrev pub invariant-fill-loop-k : goal.invariant-fill-loop-k
-invariant-fill-loop-k l =
+abbrev pub decreases-fill_elements : goal.decreases-fill_elements
+decreases-fill_elements l = 2 * size (tree l.element.now) + 1
+
+abbrev pub invariant-fill_elements-loop-k : goal.invariant-fill_elements-loop-k
+invariant-fill_elements-loop-k l =
     ElementsLeft
     l.entries
-    l.heap
-    (tree l.element.value)
+    l.heap.lists
+    (tree l.element)
     l.elements
     l.k
     l.left
-    (needs_for l.fn.heap (tree l.shape) l.fn.from)
-    (λ f rest. FillsThere l.entries l.fn.heap f (tree l.shape) l.fn.at l.fn.from rest)
+    (needs_for_each l.fn.heap.lists (tree l.element) l.elements.count l.from)
+    (λ f rest. FillsElements l.entries l.fn.heap.lists f (tree l.element) l.elements l.from rest)
 
 abbrev pub invariant-fill_members-loop-shape : goal.invariant-fill_members-loop-shape
 invariant-fill_members-loop-shape l =
     MembersLeft
     l.entries
-    l.heap
-    l.at.home
+    l.heap.lists
+    l.at.region
     l.at.base
-    (length (bytes_in l.fn.heap l.at.home))
+    (length (bytes_in l.fn.heap.lists l.at.region))
     l.at.entry
     (sizes (members (map tree l.shapes)))
     (members (map tree (drop l.shape-index l.shapes)))
     l.entry
     l.left
-    (needs_for_all l.fn.heap (members (map tree l.shapes)) l.fn.from)
-    (λ f rest. FillAllThere l.entries l.fn.heap f (members (map tree l.shapes)) l.at l.fn.from rest)
+    (needs_for_all l.fn.heap.lists (members (map tree l.shapes)) l.fn.from)
+    (λ f rest. FillAllThere l.entries l.fn.heap.lists f (members (map tree l.shapes)) l.at l.fn.from rest)

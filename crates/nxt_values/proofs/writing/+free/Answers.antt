@@ -3,7 +3,7 @@ use Rattle.std.proofs.Common.{◌≡◌, ◌+◌, ◌∷◌, map, drop, ap, sym,
 use Rattle.std.proofs.lemmas.List.{drop_more}
 use Rattle.nxt_types.specs.Shapes.{cluster_of, tree, members}
 use Rattle.nxt_types.specs.Names.{size, sizes}
-use Rattle.nxt_values.specs.Homes.{bytes_in, HoldsThere}
+use Rattle.nxt_values.specs.Regions.{bytes_in, HoldsThere}
 use Rattle.nxt_values.specs.Writes.{without, rows_there, all_rows_there, AreOwn}
 use Rattle.nxt_types.proofs.Laws.Trees.{group_tree}
 use Rattle.nxt_values.proofs.Laws.HeldRows.{all_alive}
@@ -63,12 +63,12 @@ free_lists-free_members-requires t c =
       (
         c.requires.pool,
         (
-          c.requires.home,
+          c.requires.region,
           (
             omega (arith, less),
             (
-              subst (λ s. HoldsThere c.args.entries.now c.args.heap.now s c.args.at) is c.requires.holds,
-              subst (λ s. AreOwn c.args.at.home (rows_there c.args.entries.now c.args.heap.now s c.args.at)) is c.requires.own,
+              subst (λ s. HoldsThere c.args.entries.now c.args.heap.now.lists s c.args.at) is c.requires.holds,
+              subst (λ s. AreOwn c.args.at.region (rows_there c.args.entries.now c.args.heap.now.lists s c.args.at)) is c.requires.own,
             ),
           ),
         ),
@@ -79,13 +79,13 @@ pub free_lists-returns-in-Group : goal.free_lists-returns-in-Group
 free_lists-returns-in-Group t c =
     let l = c.as_slice.result.now in
     let is : tree c.args.shape.now ≡ cluster_of (map tree l) = group_tree c.args.shape.now c.in-Group.members.items l c.in-Group.is c.as_slice.ensures.value in
-    (rw c.inside.ensures at c.free_members.ensures) ∙ ap (λ s. without c.args.heap.now (rows_there c.args.entries.now c.args.heap.now s c.args.at)) (sym is)
+    (rw c.inside.ensures at c.free_members.ensures) ∙ ap (λ s. without c.args.heap.now.lists (rows_there c.args.entries.now c.args.heap.now.lists s c.args.at)) (sym is)
 
 -- ---- members
 
 pub free_members-free_lists-requires : goal.free_members-free_lists-requires
 free_members-free_lists-requires t c =
-    let h = c.args.heap.now in
+    let h = c.args.heap.now.lists in
     let at = c.args.at in
     let xs = c.args.shapes.now in
     let i = c.loop-shape.shape-index in
@@ -93,13 +93,13 @@ free_members-free_lists-requires t c =
     let rest = drop (i + 1) xs in
     let here : drop i xs ≡ x ∷ rest = drop_more xs i x (omega arith) ∙ ap (λ y. y ∷ rest) (sym c.shape-item.is) in
     let whole = all_rows_there c.args.entries.now h (members (map tree xs)) at in
-    let left = subst (λ ys. Left c.args.entries.now h (bytes_in h at.home) at.base at.entry (sizes (members (map tree xs))) (members (map tree ys)) c.loop-shape.entry c.loop-shape.heap whole) here c.loop-shape.invariant in
+    let left = subst (λ ys. Left c.args.entries.now h (bytes_in h at.region) at.base at.entry (sizes (members (map tree xs))) (members (map tree ys)) c.loop-shape.entry c.loop-shape.heap.lists whole) here c.loop-shape.invariant in
     let can =
     member_can
     c.args.entries.now
     h
-    c.loop-shape.heap
-    at.home
+    c.loop-shape.heap.lists
+    at.region
     at.base
     at.entry
     (sizes (members (map tree xs)))
@@ -109,15 +109,15 @@ free_members-free_lists-requires t c =
     whole
     left
     c.requires.pool
-    c.requires.home
-    (all_alive c.args.entries.now h (members (map tree xs)) at.entry (bytes_in h at.home) at.base c.requires.holds)
+    c.requires.region
+    (all_alive c.args.entries.now h (members (map tree xs)) at.entry (bytes_in h at.region) at.base c.requires.holds)
     c.requires.own
     in
     rw c.member.ensures (omega (arith, left.behind, left.entries), (can.pool, (can.there, (omega (arith, left.behind, left.entries), (can.holds, can.own)))))
 
 pub free_members-loop-shape-preserved : goal.free_members-loop-shape-preserved
 free_members-loop-shape-preserved t c =
-    let h = c.args.heap.now in
+    let h = c.args.heap.now.lists in
     let at = c.args.at in
     let xs = c.args.shapes.now in
     let i = c.loop-shape.shape-index in
@@ -125,13 +125,13 @@ free_members-loop-shape-preserved t c =
     let rest = drop (i + 1) xs in
     let here : drop i xs ≡ x ∷ rest = drop_more xs i x (omega arith) ∙ ap (λ y. y ∷ rest) (sym c.shape-item.is) in
     let whole = all_rows_there c.args.entries.now h (members (map tree xs)) at in
-    let left = subst (λ ys. Left c.args.entries.now h (bytes_in h at.home) at.base at.entry (sizes (members (map tree xs))) (members (map tree ys)) c.loop-shape.entry c.loop-shape.heap whole) here c.loop-shape.invariant in
+    let left = subst (λ ys. Left c.args.entries.now h (bytes_in h at.region) at.base at.entry (sizes (members (map tree xs))) (members (map tree ys)) c.loop-shape.entry c.loop-shape.heap.lists whole) here c.loop-shape.invariant in
     let can =
     member_can
     c.args.entries.now
     h
-    c.loop-shape.heap
-    at.home
+    c.loop-shape.heap.lists
+    at.region
     at.base
     at.entry
     (sizes (members (map tree xs)))
@@ -141,19 +141,19 @@ free_members-loop-shape-preserved t c =
     whole
     left
     c.requires.pool
-    c.requires.home
-    (all_alive c.args.entries.now h (members (map tree xs)) at.entry (bytes_in h at.home) at.base c.requires.holds)
+    c.requires.region
+    (all_alive c.args.entries.now h (members (map tree xs)) at.entry (bytes_in h at.region) at.base c.requires.holds)
     c.requires.own
     in
     subst
-    (λ n. Left c.args.entries.now h (bytes_in h at.home) at.base at.entry (sizes (members (map tree xs))) (members (map tree rest)) (c.loop-shape.entry + n) c.free_lists.new.heap whole)
+    (λ n. Left c.args.entries.now h (bytes_in h at.region) at.base at.entry (sizes (members (map tree xs))) (members (map tree rest)) (c.loop-shape.entry + n) c.free_lists.new.heap.lists whole)
     (sym c.size_of-entry.ensures)
     (member_freed
     c.args.entries.now
     h
-    c.loop-shape.heap
-    c.free_lists.new.heap
-    at.home
+    c.loop-shape.heap.lists
+    c.free_lists.new.heap.lists
+    at.region
     at.base
     at.entry
     (sizes (members (map tree xs)))

@@ -2,7 +2,7 @@
 use Rattle.std.proofs.Common.{◌≡◌, ◌+◌, ◌*◌, drop, map}
 use Rattle.nxt_types.specs.Shapes.{tree, members}
 use Rattle.nxt_types.specs.Names.{size, sizes}
-use Rattle.nxt_values.specs.Homes.{bytes_in}
+use Rattle.nxt_values.specs.Regions.{bytes_in}
 use Rattle.nxt_values.specs.Writes.{without, all_rows_there}
 use Rattle.nxt_values.proofs.Free.Elements.{rows_until}
 use Rattle.nxt_values.proofs.Free.Members.{Left}
@@ -16,18 +16,18 @@ decreases-free_members l = 2 * sizes (members (map tree l.shapes.now)) + 1
 
 abbrev pub invariant-free_lists-loop-k : goal.invariant-free_lists-loop-k
 invariant-free_lists-loop-k l =
-    l.heap ≡ without l.fn.heap (rows_until l.entries l.fn.heap (tree l.element.value) l.elements l.k)
+    l.heap.lists ≡ without l.fn.heap.lists (rows_until l.entries l.fn.heap.lists (tree l.element.value) l.elements l.k)
 
 abbrev pub invariant-free_members-loop-shape : goal.invariant-free_members-loop-shape
 invariant-free_members-loop-shape l =
     Left
     l.entries
-    l.fn.heap
-    (bytes_in l.fn.heap l.at.home)
+    l.fn.heap.lists
+    (bytes_in l.fn.heap.lists l.at.region)
     l.at.base
     l.at.entry
     (sizes (members (map tree l.shapes)))
     (members (map tree (drop l.shape-index l.shapes)))
     l.entry
-    l.heap
-    (all_rows_there l.entries l.fn.heap (members (map tree l.shapes)) l.at)
+    l.heap.lists
+    (all_rows_there l.entries l.fn.heap.lists (members (map tree l.shapes)) l.at)

@@ -12,4 +12,4 @@ row_bytes-requires-clause-within c =
 pub returns : goal.returns
 returns c =
     let l = lives c.self.inside.pool.items (round4 c.self.inside.static_size) c.args.row (rw (← c.self.view_is) at c.requires) in
-    (rw (c.deref.ensures.value, c.table_above.ensures) at c.row_bytes.ensures) ∙ sym (ap bytes_of l.is) ∙ ap (λ h. bytes_at h c.args.row) c.self.view_is
+    (rw (c.deref.ensures.value, c.table_above.ensures) at c.row_bytes.ensures) ∙ sym (ap bytes_of l.is) ∙ ap (λ h. bytes_at h.lists c.args.row) c.self.view_is

@@ -5,6 +5,6 @@ use Rattle.nxt_heap.proofs.heap.Heap.footprint.Goals as goal
 
 pub returns-clause-whole : goal.returns-clause-whole
 returns-clause-whole c =
-    c.self.invariant.end_is
-    ∙ sym (footprint-state c.self.inside.static_size c.self.inside.pool.items c.self.invariant.dense)
-    ∙ ap footprint c.self.view_is
+    c.self.invariant.0.end_is
+    ∙ sym (footprint-state c.self.inside.static_size c.self.inside.pool.items c.self.invariant.0.dense)
+    ∙ ap (λ h. footprint h.lists) c.self.view_is

@@ -11,15 +11,15 @@ pub get-requires : goal.get-requires
 get-requires c =
     let l = lives c.self.inside.pool.items (round4 c.self.inside.static_size) c.args.row (rw (← c.self.view_is) at c.requires) in
     rw (c.table_above-table.ensures, c.deref.ensures.value)
-    (row_in_pool c.self.inside.pool.items (round4 c.self.inside.static_size) c.args.row c.self.invariant.dense l.within)
+    (row_in_pool c.self.inside.pool.items (round4 c.self.inside.static_size) c.args.row c.self.invariant.0.dense l.within)
 
 pub block_bytes-had-requires : goal.block_bytes-had-requires
 block_bytes-had-requires c =
     let l = lives c.self.inside.pool.items (round4 c.self.inside.static_size) c.args.row (rw (← c.self.view_is) at c.requires) in
     let found = ap row_block (rw (c.table_above-table.ensures, c.deref.ensures.value) at c.get.ensures) in
-    omega (arith, found, block_ends c.self.inside.pool.items (round4 c.self.inside.static_size) c.args.row l.within, c.self.invariant.dense.fits)
+    omega (arith, found, block_ends c.self.inside.pool.items (round4 c.self.inside.static_size) c.args.row l.within, c.self.invariant.0.dense.fits)
 
-living : (c : goal.After-deref_mut) → Lives c.self.inside.pool.items (round4 c.self.inside.static_size) c.args.row
+living : (c : goal.After-deref_mut-2) → Lives c.self.inside.pool.items (round4 c.self.inside.static_size) c.args.row
 living c = lives c.self.inside.pool.items (round4 c.self.inside.static_size) c.args.row (rw (← c.self.view_is) at c.requires)
 
 pub free_block-requires-clause-above : goal.free_block-requires-clause-above
@@ -36,6 +36,6 @@ returns c =
     let items = with_items_is c.self.inside.pool c.free_block.new.pool (c.free_block.auto.pool ∙ c.deref_mut.ensures.len) in
     let lists = rw (c.deref_mut.ensures.value, c.table_above-table.ensures) at c.free_block.ensures.lists in
     let below = rw (c.deref_mut.ensures.value, c.table_above-table.ensures) at c.free_block.ensures.below in
-    let static = static-kept c.self.inside.pool.items c.free_block.new.pool c.self.inside.static_size c.self.invariant.dense
+    let static = static-kept c.self.inside.pool.items c.free_block.new.pool c.self.inside.static_size c.self.invariant.0.dense
     (c.free_block.auto.pool ∙ ap length c.deref_mut.ensures.value) below in
-    rw (items, static, lists) (ap (λ h. with_list h c.args.row None) c.self.view_is)
+    rw (items, static, lists) (ap (λ h. with_list h.lists c.args.row None) c.self.view_is)

@@ -8,4 +8,4 @@ pub returns : goal.returns
 returns c =
     let table = round4 c.self.inside.static_size in
     rw (← c.self.view_is)
-    (lists_in-at c.self.inside.pool.items table 0 None c.self.invariant.dense.some ∙ list_in-first c.self.inside.pool.items table)
+    (lists_in-at c.self.inside.pool.items table 0 None c.self.invariant.0.dense.some ∙ list_in-first c.self.inside.pool.items table)

@@ -15,7 +15,7 @@ none_there (Some l) h = absurd (h refl)
 pub get-requires : goal.get-requires
 get-requires c =
     rw (c.table_above-table.ensures, c.deref.ensures.value)
-    (row_in_pool c.self.inside.pool.items (round4 c.self.inside.static_size) 0 c.self.invariant.dense c.self.invariant.dense.some)
+    (row_in_pool c.self.inside.pool.items (round4 c.self.inside.static_size) 0 c.self.invariant.0.dense c.self.invariant.0.dense.some)
 
 pub get-stride-requires : goal.get-stride-requires
 get-stride-requires c =
@@ -23,12 +23,12 @@ get-stride-requires c =
     let more = c.if-row-get.false in
     let within : c.args.row < row_count c.self.inside.pool.items (round4 c.self.inside.static_size) = omega (arith, count, more) in
     rw (c.table_above-table.ensures, c.deref-2.ensures.value)
-    (row_in_pool c.self.inside.pool.items (round4 c.self.inside.static_size) c.args.row c.self.invariant.dense within)
+    (row_in_pool c.self.inside.pool.items (round4 c.self.inside.static_size) c.args.row c.self.invariant.0.dense within)
 
 pub returns-then-row-eq0-clause-none : goal.returns-then-row-eq0-clause-none
 returns-then-row-eq0-clause-none c =
     λ none.
-    none_there (list_at c.args.self.now c.args.row) (λ some.
+    none_there (list_at c.args.self.now.lists c.args.row) (λ some.
     let l = lives c.self.inside.pool.items (round4 c.self.inside.static_size) c.args.row (rw (← c.self.view_is) at some) in
     let above = l.above in
     let within = l.within in
@@ -43,7 +43,7 @@ returns-then-row-eq0-clause-none c =
 pub returns-then-stride-eq0-clause-none : goal.returns-then-stride-eq0-clause-none
 returns-then-stride-eq0-clause-none c =
     λ none.
-    none_there (list_at c.args.self.now c.args.row) (λ some.
+    none_there (list_at c.args.self.now.lists c.args.row) (λ some.
     let l = lives c.self.inside.pool.items (round4 c.self.inside.static_size) c.args.row (rw (← c.self.view_is) at some) in
     let found = ap (λ r. r.stride) (rw (c.table_above-table.ensures, c.deref-2.ensures.value) at c.get-stride.ensures) in
     let zero = c.if-stride-eq0.true in
@@ -66,4 +66,4 @@ returns-else-stride-eq0-clause-stride c =
     let some = returns-else-stride-eq0-clause-alive c in
     let l = lives c.self.inside.pool.items (round4 c.self.inside.static_size) c.args.row (rw (← c.self.view_is) at some) in
     let found = ap (λ r. r.stride) (rw (c.table_above-table.ensures, c.deref-2.ensures.value) at c.get-stride.ensures) in
-    found ∙ sym (ap stride_of l.is) ∙ ap (λ h. stride_at h c.args.row) c.self.view_is
+    found ∙ sym (ap stride_of l.is) ∙ ap (λ h. stride_at h.lists c.args.row) c.self.view_is

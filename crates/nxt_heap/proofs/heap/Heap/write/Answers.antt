@@ -21,7 +21,7 @@ write_bytes-requires-clause-alive c = rw (c.deref_mut.ensures.value, c.table_abo
 pub write_bytes-requires-clause-at : goal.write_bytes-requires-clause-at
 write_bytes-requires-clause-at c =
     let l = living c in
-    let long = length-bytes c.self.inside.pool.items (round4 c.self.inside.static_size) c.args.row c.self.invariant.dense l.within in
+    let long = length-bytes c.self.inside.pool.items (round4 c.self.inside.static_size) c.args.row c.self.invariant.0.dense l.within in
     let seen = ap (λ o. length (bytes_of o)) l.is in
     rw (c.deref_mut.ensures.value, c.table_above.ensures) (omega (arith, long, seen, rw (← c.self.view_is) at c.requires.at))
 
@@ -31,8 +31,8 @@ returns c =
     let items = with_items_is c.self.inside.pool c.write_bytes.new.pool (c.write_bytes.auto.pool ∙ c.deref_mut.ensures.len) in
     let lists = rw (c.deref_mut.ensures.value, c.table_above.ensures) at c.write_bytes.ensures.lists in
     let below = rw (c.deref_mut.ensures.value, c.table_above.ensures) at c.write_bytes.ensures.below in
-    let static = static-kept c.self.inside.pool.items c.write_bytes.new.pool c.self.inside.static_size c.self.invariant.dense
+    let static = static-kept c.self.inside.pool.items c.write_bytes.new.pool c.self.inside.static_size c.self.invariant.0.dense
     (c.write_bytes.auto.pool ∙ ap length c.deref_mut.ensures.value) below in
     rw items
     (state-with_bytes c.self.inside.pool.items c.write_bytes.new.pool c.self.inside.static_size c.args.row c.args.at c.args.bytes.now l static lists
-    ∙ ap (λ h. with_bytes h c.args.row c.args.at c.args.bytes.now) c.self.view_is)
+    ∙ ap (λ h. with_bytes h.lists c.args.row c.args.at c.args.bytes.now) c.self.view_is)

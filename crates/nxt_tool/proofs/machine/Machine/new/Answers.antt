@@ -8,7 +8,7 @@ use Rattle.nxt_tool.proofs.machine.Machine.new.Goals as goal
 
 -- a machine of a program with three motors
 abbrev first_held : Program → List ℤ → List ℤ → List ℤ → Held
-first_held p a b c = held (image_in p) (state_of p.space (a ∷ b ∷ c ∷ []) 0 0 0 None)
+first_held p a b c = held (image_in p) (state_of p.space.vars (a ∷ b ∷ c ∷ []) 0 0 0 None)
 
 abbrev unset : List ℤ
 unset = replicate 15 (pos 0)

@@ -1,5 +1,5 @@
 -- Each position that is followed is one of its list's.
-use Rattle.std.proofs.Common.{◌≡◌, ◌+◌, ◌<◌, [], ◌∷◌, ◌++◌, length, get_or, refl, rules, sym, ap, ◌∙◌, arith, w64}
+use Rattle.std.proofs.Common.{◌≡◌, ◌<◌, [], ◌∷◌, ◌++◌, length, get_or, refl, rules, sym, ap, ◌∙◌, arith, w64}
 use Rattle.std.specs.Prelude.{pos, nat_abs}
 use Rattle.std.proofs.Math.Facts.{to_z-of_z}
 use mir.Val.{SFits}
@@ -20,9 +20,9 @@ loop-step-preserved c =
     let fits : SFits w64 x = search rules in
     let k : c.unsigned_abs.result ≡ nat_abs x = c.unsigned_abs.ensures.value ∙ ap nat_abs (to_z-of_z {w = w64} {z = x} fits) in
     let inside : i < length c.args.path.now.steps = omega (arith, ap length c.as_slice-step-items.ensures, c.loop-step-test.true) in
-    let less : nat_abs x < length (elements (part_of c.args.space.now c.loop-step.front)) =
+    let less : nat_abs x < length (elements (part_of c.args.space.now.vars c.loop-step.front)) =
     omega (arith, k, c.from.ensures, c.length.ensures, c.if-unsigned_abs-from.false) in
-    followed_more c.args.space.now c.args.path.now c.loop-step.front (record { var = c.loop-step.front.var; steps = c.push.new.self })
+    followed_more c.args.space.now.vars c.args.path.now c.loop-step.front (record { var = c.loop-step.front.var; steps = c.push.new.self })
     (tree c.loop-step.shape.now) (tree c.deref-shape.result.now) c.in-List.field-0 i x c.loop-step.invariant
     (ap tree c.in-List.is ∙ ap (λ e. Array c.in-List.field-0 (tree e)) (sym c.deref-shape.ensures))
     (ap (λ ys. get_or ys i (pos 0)) c.as_slice-step-items.ensures)

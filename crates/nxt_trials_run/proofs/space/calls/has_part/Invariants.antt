@@ -4,4 +4,4 @@ use Rattle.nxt_trials_run.proofs.Along.{Followed}
 use Rattle.nxt_trials_run.proofs.space.calls.has_part.Given as goal
 
 abbrev pub invariant-loop-step : goal.invariant-loop-step
-invariant-loop-step l = Followed l.space l.path l.front (tree l.shape) l.step-index
+invariant-loop-step l = Followed l.space.vars l.path l.front (tree l.shape) l.step-index

@@ -26,9 +26,9 @@ use Rattle.nxt_table.proofs.Laws.StrideFree.{size-with_strides, size_of_table}
 use Rattle.nxt_layout.proofs.Start.RulesKept.{KeepsRows, are_kept, fair_leaves, keeps_rows}
 use Rattle.nxt_layout.proofs.Start.Size.{start_bytes, passes_pool}
 use Rattle.nxt_facts.specs.Pairs.{EachPair}
-use Rattle.nxt_model.specs.Spots.{AreApart, FitsIn, FitAll, HasSpots}
+use Rattle.nxt_model.specs.Spans.{AreApart, FitsIn, FitAll, HasSpans}
 use Rattle.nxt_facts.proofs.Pairs.{pair_parts}
-use Rattle.nxt_layout.proofs.Laws.LeafSpots.{spots-with_strides, all_spots-with_strides, AreBeside, spots_apart, all_spots_apart}
+use Rattle.nxt_layout.proofs.Laws.LeafSpans.{spans-with_strides, all_spans-with_strides, AreBeside, spans_apart, all_spans_apart}
 use Rattle.nxt_layout.proofs.Start.Apart.{IsFound, leaves_apart, Suits, array_suits, small_rows}
 
 -- ---- extents
@@ -145,7 +145,7 @@ mutual
         omega (arith, fit.0.ends, enough),
         omega (arith, some, suits.0),
         omega (arith, suits.1),
-        subst AreApart (sym (spots-with_strides table f (i + 1) s)) (spots_apart table s (i + 1) (i ∷ arrays) apart.1),
+        subst AreApart (sym (spans-with_strides table f (i + 1) s)) (spans_apart table s (i + 1) (i ∷ arrays) apart.1),
         shape_fits g table s (i + 1) (depth + 1) (i ∷ arrays) (f i) suits.0 solid.1 filled fit.1 apart.1,
       )
   shape_fits g table (Cluster ss) i depth arrays most enough solid filled fit apart =
@@ -179,8 +179,8 @@ rows_fit p plain shapes place rules pool =
       | inr less ↦ omega (arith, less)
     ]
 
-pub accepted_spots : (p : Parts) (ss : Members) → IsAccepted (Broken p) → HasShapes p ss → HasSpots p.toc ss p.header.static_size
-accepted_spots p ss accepted has =
+pub accepted_spans : (p : Parts) (ss : Members) → IsAccepted (Broken p) → HasShapes p ss → HasSpans p.toc ss p.header.static_size
+accepted_spans p ss accepted has =
     let plain = has.plain in
     let shapes = has.shapes in
     let g = ground p plain in
@@ -193,8 +193,8 @@ accepted_spots p ss accepted has =
     let fit = fit_leaves g fair (leaves_found p.toc plain) rows (extents_fit p plain shapes place) in
     let solid = each_passes (λ t. not (is_void t.shape && nat_lt 0 t.depth)) (sites_among plain 0 0 []) shapes.voids in
     let apart : EachPair AreBeside (leaves_among p.toc plain 0 []) = subst (EachPair AreBeside) order (leaves_apart p plain shapes (λ a b. accepted (Table (Overlap a b)))) in
-    let spots : HasSpots p.toc (all_with_strides f 0 plain) p.header.static_size = record {
-      apart = subst AreApart (sym (all_spots-with_strides p.toc f 0 plain)) (all_spots_apart p.toc plain 0 [] apart);
+    let spans : HasSpans p.toc (all_with_strides f 0 plain) p.header.static_size = record {
+      apart = subst AreApart (sym (all_spans-with_strides p.toc f 0 plain)) (all_spans_apart p.toc plain 0 [] apart);
       fit = all_fit g p.toc plain 0 0 [] p.header.static_size (omega arith) solid shapes.spelled.filled (subst (Each (IsFit g)) order fit) apart;
     } in
-    subst (λ qs. HasSpots p.toc qs p.header.static_size) (sym has.strides) spots
+    subst (λ qs. HasSpans p.toc qs p.header.static_size) (sym has.strides) spans

@@ -3,7 +3,7 @@ use Rattle.std.proofs.Common.{◌≡◌, ℕ, zero, suc, ◌+◌, ◌-◌, ◌<�
 use Rattle.std.proofs.lemmas.Bool.{cases_lt}
 use Rattle.std.proofs.lemmas.Grind.{same_number_lists}
 use Rattle.std.proofs.lemmas.List.{get_or-take, get_or-drop, get_or_append_left, get_or-append_right}
-use Rattle.nxt_heap.specs.PutAt.{put_at}
+use Rattle.nxt_facts.specs.PutAt.{put_at}
 
 by_right : (at : ℕ) (bs xs : List ℕ) → put_at at bs xs ≡ take at xs ++ (bs ++ drop (at + length bs) xs)
 by_right at bs xs = append_assoc (take at xs) bs (drop (at + length bs) xs)
@@ -143,3 +143,12 @@ put_at-more b bs at xs fits =
         let here : at + suc j ≡ at + 1 + j = omega arith in
         ap (λ q. get_or (put_at (at + 1) bs (set xs at b)) q 0) here
         ∙ put_at-inside (at + 1) bs (set xs at b) j 0 rest (omega (arith, less))
+
+-- as many as there are take the place of all
+pub put_at-whole : (bs xs : List ℕ) → length xs ≡ length bs → put_at 0 bs xs ≡ bs
+put_at-whole bs xs long =
+    let fits : 0 + length bs ≤ length xs = omega (arith, long) in
+    same_number_lists (put_at 0 bs xs) bs (length-put_at 0 bs xs fits ∙ long) (λ k low.
+    let less : k < length bs = omega (arith, low, long, length-put_at 0 bs xs fits) in
+    let here : k ≡ 0 + k = omega arith in
+    ap (λ q. get_or (put_at 0 bs xs) q 0) here ∙ put_at-inside 0 bs xs k 0 fits less)

@@ -5,7 +5,7 @@ use Rattle.nxt_types.specs.Shapes.{Members, no_members, member, Number, Array, C
 use Rattle.nxt_types.specs.declared.kind.Kind.TheVariants.{Ubyte}
 use Rattle.nxt_types.specs.declared.shape.TocEntry.{TocEntry}
 use Rattle.nxt_model.specs.Values.{Num, list_of, group_of, values}
-use Rattle.nxt_model.specs.Spots.{Spot, spots_among, HasSpots}
+use Rattle.nxt_model.specs.Spans.{Span, spans_among, HasSpans}
 use Rattle.nxt_values.specs.Fills.{all_filled}
 
 abbrev entry : ℕ → ℕ → TocEntry
@@ -18,14 +18,14 @@ table = entry 8 2 ∷ entry 1 2 ∷ entry 7 0 ∷ entry 7 0 ∷ entry 1 0 ∷ []
 abbrev shapes : Members
 shapes = member (Cluster (member (Number Ubyte) (member (Array 2 (Array 1 (Number Ubyte))) no_members))) no_members
 
-abbrev spot : ℕ → ℕ → Spot
-spot place width = record { place = place; width = width }
+abbrev span : ℕ → ℕ → Span
+span place width = record { place = place; width = width }
 
-stand : spots_among table shapes 0 ≡ spot 2 1 ∷ spot 0 2 ∷ []
+stand : spans_among table shapes 0 ≡ span 2 1 ∷ span 0 2 ∷ []
 stand = refl
 
-has_spots : HasSpots table shapes 3
-has_spots = record {
+has_spans : HasSpans table shapes 3
+has_spans = record {
   apart = ((inr (omega arith), tt), (tt, tt));
   fit = (
     (omega arith, ((omega arith, omega arith, omega arith, (tt, tt), (omega arith, omega arith, omega arith, (tt, tt), omega arith)), tt)),

@@ -1,0 +1,101 @@
+//! Times of `Space` by itself: one call, a million times over. The word tells which, by its first letter.
+#![tactic(auto)]
+
+use nxt_images::{ARRAY, EMPTY, Image, SLONG, layout_of};
+use nxt_space::Space;
+use std::env;
+use std::process::ExitCode;
+use std::rt::Env;
+use std::test::Fail;
+
+/// Two lists of 1,000 numbers of 32 bits, and such a number.
+const VARIABLES: Image<'static> = Image {
+    entries: &[
+        (ARRAY, 0, 0),
+        (SLONG, 0, 0),
+        (ARRAY, 0, 2),
+        (SLONG, 0, 0),
+        (SLONG, 1, 4),
+    ],
+    static_size: 8,
+    defaults: &[1, 0, 2, 0],
+    rows: &[(8, 10, 3), (40, 4, 1000), (4040, 4, 1000)],
+    lists: &[0, 0],
+    zeros: 8000,
+    ..EMPTY
+};
+
+// One list gets the value of the other.
+fn copies(space: &mut Space, times: u32) {
+    for _ in 0..times {
+        if let Some(to) = space.list_spot(0) {
+            if let Some(from) = space.list_spot(2) {
+                if from.kind() == to.kind() {
+                    let _fits = space.copy_list(to, from);
+                }
+            }
+        }
+    }
+}
+
+// An element is set.
+fn replaced(space: &mut Space, times: u32) {
+    for k in 0..times {
+        if let Some(list) = space.list_spot(0) {
+            space.set_element(list, k % 1000, k);
+        }
+    }
+}
+
+// An element is read.
+fn indexed(space: &Space, times: u32) -> u32 {
+    let mut sum = 0u32;
+    for k in 0..times {
+        if let Some(list) = space.list_spot(0) {
+            sum = sum.wrapping_add(space.element(list, k % 1000));
+        }
+    }
+    sum
+}
+
+// A number is read and stored.
+fn added(space: &mut Space, times: u32) {
+    for k in 0..times {
+        if let Some(spot) = space.spot(4) {
+            let w = space.word(spot);
+            space.set_word(spot, w.wrapping_add(k));
+        }
+    }
+}
+
+fn work(rt: &HostRuntime, which: u8, times: u32) -> Result<u32, Fail> {
+    let layout = layout_of(rt.alloc(), &VARIABLES)?;
+    let mut space = Space::new(rt.alloc(), &layout)?;
+    match which {
+        b'c' => copies(&mut space, times),
+        b'r' => replaced(&mut space, times),
+        b'a' => added(&mut space, times),
+        b'i' => return Ok(indexed(&space, times)),
+        _ => {}
+    }
+    Ok(space.footprint())
+}
+
+// The first letter of the last word.
+fn letter(rt: &HostRuntime) -> u8 {
+    let mut which = 0u8;
+    if let Ok(args) = env::args(rt) {
+        for arg in args.skip(1) {
+            if let Some(byte) = arg.into_bytes().get(0) {
+                which = *byte;
+            }
+        }
+    }
+    which
+}
+
+fn main(rt: HostRuntime) -> Result<ExitCode, Fail> {
+    let which = letter(&rt);
+    let sum = work(&rt, which, 1_000_000)?;
+    Ok(ExitCode::from(u8::from(sum == 1)))
+}
