@@ -5,7 +5,7 @@ use Rattle.std.specs.Prelude.{ℤ, pos, if◌then◌else◌}
 use Rattle.std.proofs.lemmas.Bool.{false_from_ne_true}
 use Rattle.std.proofs.lemmas.Bool.Decides.{Decides-int_eq}
 use Rattle.std.proofs.lemmas.List.{length-map, drop_more, drop_all}
-use Rattle.nxt_types.specs.Arithmetic.{taken, compare, compares}
+use Rattle.nxt_types.specs.Arithmetic.{taken, compares}
 use Rattle.nxt_types.specs.declared.kind.Cmp.{Cmp}
 use Rattle.nxt_types.specs.declared.kind.Kind.{Kind}
 use Rattle.nxt_types.specs.OperandRules.{are_alike}
@@ -45,11 +45,6 @@ lists_decide s t x y e f =
     ∙ ap₂ (λ p q. deciding_numbers (either_signed (element p) (element q)) (numbers_in x) (numbers_in y)) (sym a.2) (sym b.2)
 
 -- ---- whole comparisons
-
-pub numbers_held : (c : Cmp) (s t : Shape) (x y : Value) (signed : Bool) → is_number s ≡ true → signed ≡ either_signed s t → compare c signed (number x) (number y) ≡ holds c (Given s x) (Given t y)
-numbers_held c s t x y signed is e =
-    ap (λ b. compare c b (number x) (number y)) e
-    ∙ ap (λ (p : ℤ × ℤ). compares c p.0 p.1) (sym (numbers_decide s t x y is))
 
 pub lists_held : (c : Cmp) (s t : Shape) (x y : Value) (signed : Bool) (pair : ℤ × ℤ) → are_alike s t ≡ true → is_number s ≡ false → signed ≡ either_signed (element s) (element t) → pair ≡ deciding_numbers signed (numbers_in x) (numbers_in y) → compares c pair.0 pair.1 ≡ holds c (Given s x) (Given t y)
 lists_held c s t x y signed pair alike other e told =

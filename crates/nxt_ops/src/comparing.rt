@@ -1,34 +1,31 @@
-// Comparisons of whole values.
+// Comparisons of lists.
 
-ghost use Rattle.std.specs.Prelude.{◌≡◌, true, IfOk, IsSome};
+ghost use Rattle.std.specs.Prelude.{◌≡◌, true, false, IfOk, IsSome};
+ghost use Rattle.nxt_types.specs.Shapes.{is_number};
 ghost use Rattle.nxt_types.specs.OperandRules.{is_plain, are_alike};
 ghost use Rattle.nxt_model.specs.Means.Numbers.{holds as holds_of};
 ghost use Rattle.nxt_space.specs.Variables.{AreSound, name_of, shape_of};
 ghost use Rattle.nxt_operands.specs.Operands.{given};
 ghost use Rattle.nxt_ops.specs.Ops.{deciding_numbers};
 
-use nxt_operands::operands::{has_sign, has_signed_elements, is_number};
+use nxt_operands::operands::has_signed_elements;
 use nxt_operands::reading::numbers_of;
 use nxt_space::Space;
 use nxt_types::NoMemory;
 use nxt_types::kind::Cmp;
-use nxt_types::numbers::{compare, compares, taken};
+use nxt_types::numbers::{compares, taken};
 use std::alloc::Global;
 
-/// Whether a comparison of two numbers holds, or of two lists of numbers: the first place where they differ decides, or else
-/// their lengths.
+/// Whether a comparison of two lists of numbers holds: the first place where they differ decides, or else their lengths.
 pub fn holds(alloc: Global, space: &Space, cmp: Cmp, x: u16, y: u16) -> Result<bool, NoMemory>
     requires sound { AreSound space.now.vars }
     requires x { IsSome (name_of space.now.vars x) }
     requires y { IsSome (name_of space.now.vars y) }
     requires plain { is_plain (shape_of space.now.vars x) ≡ true }
+    requires list { is_number (shape_of space.now.vars x) ≡ false }
     requires fit { are_alike (shape_of space.now.vars x) (shape_of space.now.vars y) ≡ true }
     ensures { IfOk result (λ b. b ≡ holds_of cmp (given space.now.vars x) (given space.now.vars y)) }
 {
-    if is_number(space, x) {
-        let signed = has_sign(space, x) || has_sign(space, y);
-        return Ok(compare(cmp, signed, space.get(x), space.get(y)));
-    }
     let signed = has_signed_elements(space, x) || has_signed_elements(space, y);
     let xs = numbers_of(alloc, space, x)?;
     let ys = numbers_of(alloc, space, y)?;

@@ -5,6 +5,9 @@
 mod comparing;
 mod lists;
 mod operator;
+pub mod ready;
 pub mod run;
 
+pub use operator::{One, Two};
+pub use ready::{Ready, made_ready, run_ready};
 pub use run::{Next, run_op, runs};

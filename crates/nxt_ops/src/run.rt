@@ -1,26 +1,28 @@
 // Statements that compute with variables, or jump.
 
-ghost use Rattle.std.specs.Prelude.{◌≡◌, true, IsSome};
+ghost use Rattle.std.specs.Prelude.{◌≡◌, true, false, IsSome, pos};
 ghost use Rattle.nxt_types.specs.OperandRules.{AreFit, is_plain, are_alike};
-ghost use Rattle.nxt_types.specs.Shapes.{convertible};
+ghost use Rattle.nxt_types.specs.Shapes.{convertible, is_number as is_number_shape};
 ghost use Rattle.nxt_model.specs.Devices.{Devices};
 ghost use Rattle.nxt_model.specs.SystemCalls.{Clock};
-ghost use Rattle.nxt_model.specs.Values.{stored};
+ghost use Rattle.nxt_model.specs.Means.Numbers.{holds as holds_of, truth};
+ghost use Rattle.nxt_model.specs.Values.{Num, stored};
+ghost use Rattle.nxt_ops.specs.Ready.{on_numbers};
 ghost use Rattle.nxt_space.specs.Variables.{AreSound, name_of, shape_of, value_of, with_value};
 ghost use Rattle.nxt_space.specs.Outcomes.{Does};
 ghost use Rattle.nxt_operands.specs.Operands.{AllTrue, Done, given};
-ghost use Rattle.nxt_ops.specs.Ops.{CanRun, statement_in, next_of, effect_in, values_after, value_of_two, value_of_one, asked_of_two, stores, runs as does_run, two_of as operator_on_two, one_of as operator_on_one};
+ghost use Rattle.nxt_ops.specs.Ops.{CanRun, statement_in, next_of, effect_in, values_after, stores, runs as does_run, two_of as operator_on_two, one_of as operator_on_one};
 
 use crate::comparing::holds;
 use crate::lists::{combine_lists, map_list};
 use crate::operator::{One, Two};
-use nxt_operands::operands::{has_sign, is_number};
+use crate::ready::{made_ready, run_ready};
+use nxt_operands::operands::is_number;
 use nxt_operands::reading::flat_of;
 use nxt_operands::storing::store;
 use nxt_space::{OpFault, Space};
 use nxt_types::instr::{Instr, Op};
 use nxt_types::kind::{Arith, Cmp};
-use nxt_types::numbers::compare;
 use nxt_types::toc::Toc;
 use std::alloc::Global;
 
@@ -63,15 +65,15 @@ pub fn run_op(alloc: Global, i: &Instr, toc: &Toc, space: &mut Space) -> Result<
     requires { CanRun i.now toc.now space.old.vars }
     ensures { (d : Devices) (t : Clock) → Does (λ next. next ≡ next_of i.now (effect_in space.old.vars i.now d t).jumps) (values_after space.old.vars i.now d t) space.old result space.new }
 {
-    match i.op {
-        Op::Jmp => Ok(going_on(i, true)),
-        Op::Brcmp => Ok(going_on(i, holds(alloc, space, i.cmp, i.b, i.c)?)),
-        Op::Brtst => Ok(going_on(i, compare(i.cmp, has_sign(space, i.b), space.get(i.b), 0))),
-        _ => {
-            compute(alloc, i, space)?;
-            Ok(Next::Fall)
-        }
+    // From place 0 it goes on at 0 where it jumps there, and else at 1.
+    if let Some(place) = run_ready(made_ready(i, space, 0), 0, space) {
+        return Ok(going_on(i, place == 0));
     }
+    if i.op == Op::Brcmp {
+        return Ok(going_on(i, holds(alloc, space, i.cmp, i.b, i.c)?));
+    }
+    compute(alloc, i, space)?;
+    Ok(Next::Fall)
 }
 
 // Where a statement goes on, which jumps or doesn't.
@@ -85,29 +87,29 @@ fn going_on(i: &Instr, jumps: bool) -> Next
     }
 }
 
-// Runs a statement that stores a value.
+// Runs a statement that stores a value, and is not on numbers alone.
 fn compute(alloc: Global, i: &Instr, space: &mut Space) -> Result<(), OpFault>
     requires runs { does_run i.now.op ≡ true }
     requires stores { stores i.now.op ≡ true }
+    requires lists { on_numbers space.old.vars i.now ≡ false }
     requires sound { AreSound space.old.vars }
     requires fit { AreFit space.old.vars.shapes (statement_in i.now) }
     ensures { (d : Devices) (t : Clock) → Does Done (values_after space.old.vars i.now d t) space.old result space.new }
 {
     if let Some(operator) = two_of(i.op, i.cmp) {
-        return combine(alloc, operator, space, i.a, i.b, i.c);
+        if is_number(space, i.a) {
+            return store_comparison(alloc, i.cmp, space, i.a, i.b, i.c);
+        }
+        return combine_lists(alloc, operator, space, i.a, i.b, i.c);
     }
     if let Some(operator) = one_of(i.op, i.cmp) {
-        return change(alloc, operator, space, i.a, i.b);
+        return map_list(alloc, operator, space, i.a, i.b);
     }
-    if i.op == Op::Mov {
-        return copy(alloc, space, i.a, i.b);
-    }
-    space.set(i.a, i64::from(i.b));
-    Ok(())
+    copy(alloc, space, i.a, i.b)
 }
 
 // The operator of a statement on two values.
-fn two_of(op: Op, cmp: Cmp) -> Option<Two>
+pub fn two_of(op: Op, cmp: Cmp) -> Option<Two>
     ensures { result ≡ operator_on_two op cmp }
 {
     match op {
@@ -125,7 +127,7 @@ fn two_of(op: Op, cmp: Cmp) -> Option<Two>
 }
 
 // The operator of a statement on one value.
-fn one_of(op: Op, cmp: Cmp) -> Option<One>
+pub fn one_of(op: Op, cmp: Cmp) -> Option<One>
     ensures { result ≡ operator_on_one op cmp }
 {
     match op {
@@ -136,50 +138,26 @@ fn one_of(op: Op, cmp: Cmp) -> Option<One>
     }
 }
 
-// Stores what an operator gives for two values.
-fn combine(
+// Stores in a number whether a comparison of two lists of numbers holds.
+fn store_comparison(
     alloc: Global,
-    operator: Two,
+    cmp: Cmp,
     space: &mut Space,
     dest: u16,
     x: u16,
     y: u16,
 ) -> Result<(), OpFault>
     requires sound { AreSound space.old.vars }
-    requires dest { IsSome (name_of space.old.vars dest) }
+    requires dest { is_number_shape (shape_of space.old.vars dest) ≡ true }
     requires x { IsSome (name_of space.old.vars x) }
     requires y { IsSome (name_of space.old.vars y) }
-    requires fit { AllTrue (asked_of_two operator (shape_of space.old.vars dest) (shape_of space.old.vars x) (shape_of space.old.vars y)) }
-    ensures { Does Done (with_value space.old.vars dest (stored (shape_of space.old.vars dest) (value_of_two operator (shape_of space.old.vars dest) (given space.old.vars x) (given space.old.vars y)))) space.old result space.new }
+    requires plain { is_plain (shape_of space.old.vars x) ≡ true }
+    requires list { is_number_shape (shape_of space.old.vars x) ≡ false }
+    requires fit { are_alike (shape_of space.old.vars x) (shape_of space.old.vars y) ≡ true }
+    ensures { Does Done (with_value space.old.vars dest (stored (shape_of space.old.vars dest) (Num (pos (truth (holds_of cmp (given space.old.vars x) (given space.old.vars y))))))) space.old result space.new }
 {
-    if !is_number(space, dest) {
-        return combine_lists(alloc, operator, space, dest, x, y);
-    }
-    let word = match operator {
-        Two::Compare(cmp) => u32::from(holds(alloc, space, cmp, x, y)?),
-        Two::Calculate(_) => {
-            let signed = has_sign(space, x) || has_sign(space, y);
-            operator.word(signed, space.get(x), space.get(y))
-        }
-    };
-    space.set(dest, i64::from(word));
-    Ok(())
-}
-
-// Stores what an operator gives for one value.
-fn change(alloc: Global, operator: One, space: &mut Space, dest: u16, x: u16) -> Result<(), OpFault>
-    requires sound { AreSound space.old.vars }
-    requires dest { IsSome (name_of space.old.vars dest) }
-    requires x { IsSome (name_of space.old.vars x) }
-    requires plain { is_plain (shape_of space.old.vars dest) ≡ true }
-    requires fit { are_alike (shape_of space.old.vars dest) (shape_of space.old.vars x) ≡ true }
-    ensures { Does Done (with_value space.old.vars dest (stored (shape_of space.old.vars dest) (value_of_one operator (shape_of space.old.vars dest) (given space.old.vars x)))) space.old result space.new }
-{
-    if !is_number(space, dest) {
-        return map_list(alloc, operator, space, dest, x);
-    }
-    let word = operator.word(has_sign(space, x), space.get(x));
-    space.set(dest, i64::from(word));
+    let held = holds(alloc, space, cmp, x, y)?;
+    space.set(dest, i64::from(held));
     Ok(())
 }
 
@@ -191,10 +169,6 @@ fn copy(alloc: Global, space: &mut Space, dest: u16, source: u16) -> Result<(), 
     requires fit { convertible (shape_of space.old.vars dest) (shape_of space.old.vars source) ≡ true }
     ensures { Does Done (with_value space.old.vars dest (stored (shape_of space.old.vars dest) (value_of space.old.vars source))) space.old result space.new }
 {
-    if is_number(space, dest) {
-        space.set(dest, space.get(source));
-        return Ok(());
-    }
     let flat = flat_of(alloc, space, source)?;
     store(space, dest, &flat)
 }

@@ -10,3 +10,5 @@ pub mod Variables
 pub mod Members
 -- A number takes no bytes of a list.
 pub mod NoBytes
+-- Numbers that are stored by their words.
+pub mod Words

@@ -1,66 +1,27 @@
--- By their shapes both are numbers, or both are lists of numbers.
-use Rattle.std.proofs.Common.{rules, ◌≡◌, w64, sym, ap₂, ◌∙◌}
+-- By their shapes both are lists of numbers.
+use Rattle.std.proofs.Common.{rules, ◌≡◌, w64, ap₂, ◌∙◌}
 use Rattle.std.proofs.Math.Facts.{to_z-of_z}
 use mir.Val.{SFits}
-use Rattle.nxt_types.specs.Arithmetic.{compare, compares}
+use Rattle.nxt_types.specs.Arithmetic.{compares}
 use Rattle.nxt_model.specs.Means.Effects.{element}
 use Rattle.nxt_model.specs.Means.Numbers.{signed_kind, either_signed}
 use Rattle.nxt_space.specs.Variables.{shape_of, value_of}
 use Rattle.nxt_ops.specs.Ops.{deciding_numbers}
-use Rattle.nxt_ops.proofs.DecidingNumbers.{numbers_held, lists_held}
+use Rattle.nxt_ops.proofs.DecidingNumbers.{lists_held}
 use Rattle.nxt_operands.proofs.Laws.NumberLists.{alike_numbers, variable_numbers}
 use Rattle.nxt_facts.proofs.Either.{first_holds, second_tells}
-use Rattle.nxt_ops.proofs.comparing.holds.Goals.{then-has_sign, else-has_sign, then-has_signed_elements, else-has_signed_elements}
+use Rattle.nxt_ops.proofs.comparing.holds.Goals.{then-has_signed_elements, else-has_signed_elements}
 use Rattle.nxt_ops.proofs.comparing.holds.Goals as goal
-
-pub returns-then-is_number : goal.returns-then-is_number
-returns-then-is_number c =
-    let s = c.args.space.now.vars in
-    let x = value_of s c.args.x in
-    let y = value_of s c.args.y in
-    let fx : SFits w64 c.get.result = search rules in
-    let fy : SFits w64 c.get-then-is_number.result = search rules in
-    let a = signed_kind (shape_of s c.args.x) in
-    let b = signed_kind (shape_of s c.args.y) in
-    let signed : c.if-has_sign.signed ≡ either_signed (shape_of s c.args.x) (shape_of s c.args.y) =
-    elim c.if-has_sign.branch [
-      | then-has_sign w ↦ first_holds a b c.has_sign.result c.if-has_sign.signed c.has_sign.ensures w.if-has_sign.true w.signed-is
-      | else-has_sign w ↦
-          second_tells
-          a
-          b
-          c.has_sign.result
-          w.has_sign-signed.result
-          c.if-has_sign.signed
-          c.has_sign.ensures
-          w.if-has_sign.false
-          w.has_sign-signed.ensures
-          w.signed-is
-    ]
-    in
-    c.compare.ensures
-    ∙ ap₂ (compare c.args.cmp c.if-has_sign.signed) (to_z-of_z fx ∙ c.get.ensures) (to_z-of_z fy ∙ c.get-then-is_number.ensures)
-    ∙ numbers_held
-    c.args.cmp
-    (shape_of s c.args.x)
-    (shape_of s c.args.y)
-    x
-    y
-    c.if-has_sign.signed
-    (sym c.is_number.ensures ∙ c.if-is_number.true)
-    signed
 
 pub numbers_of-requires-clause-list : goal.numbers_of-requires-clause-list
 numbers_of-requires-clause-list c =
     let s = c.args.space.now.vars in
-    let other = sym c.is_number.ensures ∙ c.if-is_number.false in
-    variable_numbers s c.args.x c.requires.sound c.requires.x (alike_numbers (shape_of s c.args.x) (shape_of s c.args.y) c.requires.fit other).0
+    variable_numbers s c.args.x c.requires.sound c.requires.x (alike_numbers (shape_of s c.args.x) (shape_of s c.args.y) c.requires.fit c.requires.list).0
 
 pub numbers_of-requires-2-clause-list : goal.numbers_of-requires-2-clause-list
 numbers_of-requires-2-clause-list c =
     let s = c.args.space.now.vars in
-    let other = sym c.is_number.ensures ∙ c.if-is_number.false in
-    variable_numbers s c.args.y c.requires.sound c.requires.y (alike_numbers (shape_of s c.args.x) (shape_of s c.args.y) c.requires.fit other).1
+    variable_numbers s c.args.y c.requires.sound c.requires.y (alike_numbers (shape_of s c.args.x) (shape_of s c.args.y) c.requires.fit c.requires.list).1
 
 pub returns : goal.returns
 returns c =
@@ -107,7 +68,7 @@ returns c =
     either
     c.deciding-a.result
     c.requires.fit
-    (sym c.is_number.ensures ∙ c.if-is_number.false)
+    c.requires.list
     signed
     (c.deciding-a.ensures
     ∙ ap₂ (deciding_numbers either) (c.as_slice.ensures ∙ c.in_ok-xs.ensures) (c.as_slice-2.ensures ∙ c.in_ok-ys.ensures))

@@ -1,56 +1,168 @@
 -- Each statement does what it means, and goes on where it should.
-use Rattle.std.proofs.Common.{rules, sym, ◌∙◌, ap, ap₂, pos, w64}
-use Rattle.std.proofs.Math.Facts.{to_z-of_z}
-use mir.Val.{SFits}
-use Rattle.nxt_types.specs.Arithmetic.{compare}
-use Rattle.nxt_operands.specs.Operands.{Done}
-use Rattle.nxt_operands.proofs.Laws.Refusals.{passed_on}
-use Rattle.nxt_ops.specs.Ops.{next_of, values_after}
-use Rattle.nxt_ops.proofs.Fitting.{Alike, brcmp_fit, brtst_fit}
+use Rattle.std.proofs.Common.{rules, if◌then◌else◌, Bool, Err, IsSome, ◌≡◌, ◌≢◌, ◌==◌, ◌+◌, true, false, refl, sym, ◌∙◌, ap, subst, Ok}
+use denote.Enum.Bare.{same_true, sameb}
+use Rattle.nxt_types.specs.contracts.instr.Op.{the_type}
+use Rattle.nxt_types.specs.declared.instr.Op.TheVariants as ops
+use Rattle.nxt_types.specs.OperandRules.{AreFit, is_plain, are_alike}
+use Rattle.nxt_types.specs.Shapes.{is_number}
+use Rattle.nxt_model.specs.Means.Numbers.{holds}
+use Rattle.nxt_space.specs.Outcomes.{Does}
+use Rattle.nxt_space.specs.Variables.{SpaceViews, AreSound, name_of, shape_of}
+use Rattle.nxt_operands.specs.Operands.{Done, given}
 use Rattle.nxt_operands.proofs.Laws.Named.{named_some}
-use Rattle.nxt_ops.proofs.Meanings.{brcmp_means, brtst_means, brcmp_keeps, brtst_keeps, falls, goes_on}
+use Rattle.nxt_operands.proofs.Laws.Refusals.{passed_on}
+use Rattle.nxt_ops.specs.Ops.{effect_in, next_of, values_after, stores, statement_in}
+use Rattle.nxt_ops.specs.Ready.{IsReady, IsMadeReady, on_numbers}
+use Rattle.nxt_ops.proofs.Fitting.{brcmp_fit, brtst_fit}
+use Rattle.nxt_ops.proofs.Meanings.{brcmp_means, brcmp_keeps, falls, goes_on}
+use Rattle.nxt_ops.proofs.OnLists.{alike_list, brcmp_lists, stores_value, no_jump}
 use Rattle.nxt_ops.proofs.run.run_op.Goals as goal
 
-alike : (c : goal.After-holds-arg-1) → Alike c.args.space.now.vars c.args.i.now.b c.args.i.now.c
-alike c = brcmp_fit c.args.space.now.vars c.args.i.now c.in-Brcmp.is c.requires.fit
+pub run_ready-requires-clause-stands : goal.run_ready-requires-clause-stands
+run_ready-requires-clause-stands c =
+    (c.args.i.now, 0, record { runs = c.requires.runs; sound = c.requires.sound; fit = c.requires.fit; ready = c.made_ready.ensures })
+
+jumped : (b : Bool) → ((if b then 0 else 0 + 1) == 0) ≡ b
+jumped true = refl
+jumped false = refl
+
+pub returns-in-Some : goal.returns-in-Some
+returns-in-Some c d t =
+    let s = c.args.space.now.vars in
+    let i = c.args.i.now in
+    let made : IsMadeReady s i 0 c.made_ready.result = record { runs = c.requires.runs; sound = c.requires.sound; fit = c.requires.fit; ready = c.made_ready.ensures } in
+    let done = (c.in-Some.ensures {u = tt}).ran i 0 made d t in
+    (done.0, done.1, c.going_on.ensures ∙ ap (next_of i) (ap (λ n. n == 0) done.2 ∙ jumped (effect_in s i d t).jumps))
+
+pub holds-requires-clause-sound : goal.holds-requires-clause-sound
+holds-requires-clause-sound c =
+    let s = c.args.space.now.vars in
+    let i = c.args.i.now in
+    let same : c.run_ready.new.space ≡ c.args.space.now = (c.in_default.ensures {u = tt}).same refl in
+    let lists : on_numbers s i ≡ false = subst (IsReady s i 0) ((c.in_default.ensures {u = tt}).other refl) c.made_ready.ensures in
+    subst (λ (v : SpaceViews). AreSound v.vars) (sym same) c.requires.sound
 
 pub holds-requires-clause-x : goal.holds-requires-clause-x
-holds-requires-clause-x c = named_some c.args.space.now.vars c.args.i.now.b (alike c).first
+holds-requires-clause-x c =
+    let s = c.args.space.now.vars in
+    let i = c.args.i.now in
+    let same : c.run_ready.new.space ≡ c.args.space.now = (c.in_default.ensures {u = tt}).same refl in
+    let lists : on_numbers s i ≡ false = subst (IsReady s i 0) ((c.in_default.ensures {u = tt}).other refl) c.made_ready.ensures in
+    let is : i.op ≡ ops.Brcmp = same_true the_type (search rules) _ _ (sym (c.if-eq.ensures {u = tt})) in
+    let fit = brcmp_fit s i is c.requires.fit in
+    subst (λ (v : SpaceViews). IsSome (name_of v.vars i.b)) (sym same) (named_some s i.b fit.first)
 
 pub holds-requires-clause-y : goal.holds-requires-clause-y
-holds-requires-clause-y c = named_some c.args.space.now.vars c.args.i.now.c (alike c).second
+holds-requires-clause-y c =
+    let s = c.args.space.now.vars in
+    let i = c.args.i.now in
+    let same : c.run_ready.new.space ≡ c.args.space.now = (c.in_default.ensures {u = tt}).same refl in
+    let lists : on_numbers s i ≡ false = subst (IsReady s i 0) ((c.in_default.ensures {u = tt}).other refl) c.made_ready.ensures in
+    let is : i.op ≡ ops.Brcmp = same_true the_type (search rules) _ _ (sym (c.if-eq.ensures {u = tt})) in
+    let fit = brcmp_fit s i is c.requires.fit in
+    subst (λ (v : SpaceViews). IsSome (name_of v.vars i.c)) (sym same) (named_some s i.c fit.second)
 
 pub holds-requires-clause-plain : goal.holds-requires-clause-plain
-holds-requires-clause-plain c = (alike c).asked_first
+holds-requires-clause-plain c =
+    let s = c.args.space.now.vars in
+    let i = c.args.i.now in
+    let same : c.run_ready.new.space ≡ c.args.space.now = (c.in_default.ensures {u = tt}).same refl in
+    let lists : on_numbers s i ≡ false = subst (IsReady s i 0) ((c.in_default.ensures {u = tt}).other refl) c.made_ready.ensures in
+    let is : i.op ≡ ops.Brcmp = same_true the_type (search rules) _ _ (sym (c.if-eq.ensures {u = tt})) in
+    let fit = brcmp_fit s i is c.requires.fit in
+    subst (λ (v : SpaceViews). is_plain (shape_of v.vars i.b) ≡ true) (sym same) fit.asked_first
+
+pub holds-requires-clause-list : goal.holds-requires-clause-list
+holds-requires-clause-list c =
+    let s = c.args.space.now.vars in
+    let i = c.args.i.now in
+    let same : c.run_ready.new.space ≡ c.args.space.now = (c.in_default.ensures {u = tt}).same refl in
+    let lists : on_numbers s i ≡ false = subst (IsReady s i 0) ((c.in_default.ensures {u = tt}).other refl) c.made_ready.ensures in
+    let is : i.op ≡ ops.Brcmp = same_true the_type (search rules) _ _ (sym (c.if-eq.ensures {u = tt})) in
+    let fit = brcmp_fit s i is c.requires.fit in
+    subst (λ (v : SpaceViews). is_number (shape_of v.vars i.b) ≡ false) (sym same)
+    (alike_list (shape_of s i.b) (shape_of s i.c) fit.asked_second (brcmp_lists s i is lists))
 
 pub holds-requires-clause-fit : goal.holds-requires-clause-fit
-holds-requires-clause-fit c = (alike c).asked_second
-
-pub returns-in_ok-holds-in-Brcmp : goal.returns-in_ok-holds-in-Brcmp
-returns-in_ok-holds-in-Brcmp c d t =
+holds-requires-clause-fit c =
     let s = c.args.space.now.vars in
     let i = c.args.i.now in
-    let fit = brcmp_fit s i c.in-Brcmp.is c.requires.fit in
-    goes_on c.args.space.now i d t c.going_on-in-Brcmp.result c.requires.sound (brcmp_keeps s i d t c.in-Brcmp.is)
-    (c.going_on-in-Brcmp.ensures ∙ ap (next_of i) (c.in_ok-holds-in-Brcmp.ensures ∙ sym (brcmp_means s i d t c.in-Brcmp.is fit.first fit.second)))
+    let same : c.run_ready.new.space ≡ c.args.space.now = (c.in_default.ensures {u = tt}).same refl in
+    let lists : on_numbers s i ≡ false = subst (IsReady s i 0) ((c.in_default.ensures {u = tt}).other refl) c.made_ready.ensures in
+    let is : i.op ≡ ops.Brcmp = same_true the_type (search rules) _ _ (sym (c.if-eq.ensures {u = tt})) in
+    let fit = brcmp_fit s i is c.requires.fit in
+    subst (λ (v : SpaceViews). are_alike (shape_of v.vars i.b) (shape_of v.vars i.c) ≡ true) (sym same) fit.asked_second
 
-pub returns-in-Brtst : goal.returns-in-Brtst
-returns-in-Brtst c d t =
+pub returns-then-eq : goal.returns-then-eq
+returns-then-eq c d t =
     let s = c.args.space.now.vars in
     let i = c.args.i.now in
-    let fit = brtst_fit s i c.in-Brtst.is c.requires.fit in
-    let fits : SFits w64 c.get.result = search rules in
-    let number = to_z-of_z {w = w64} {z = c.get.result} fits ∙ c.get.ensures in
-    let jumps = c.compare.ensures ∙ ap₂ (λ b z. compare i.cmp b z (pos 0)) c.has_sign.ensures number in
-    goes_on c.args.space.now i d t c.going_on-in-Brtst.result c.requires.sound (brtst_keeps s i d t c.in-Brtst.is)
-    (c.going_on-in-Brtst.ensures ∙ ap (next_of i) (jumps ∙ sym (brtst_means s i d t c.in-Brtst.is fit.named)))
+    let same : c.run_ready.new.space ≡ c.args.space.now = (c.in_default.ensures {u = tt}).same refl in
+    let lists : on_numbers s i ≡ false = subst (IsReady s i 0) ((c.in_default.ensures {u = tt}).other refl) c.made_ready.ensures in
+    let is : i.op ≡ ops.Brcmp = same_true the_type (search rules) _ _ (sym (c.if-eq.ensures {u = tt})) in
+    let fit = brcmp_fit s i is c.requires.fit in
+    let held = c.in_ok-holds.ensures ∙ ap (λ (v : SpaceViews). holds i.cmp (given v.vars i.b) (given v.vars i.c)) same in
+    subst
+    (λ v. Does (λ n. n ≡ next_of i (effect_in s i d t).jumps) (values_after s i d t) c.args.space.now (Ok c.going_on-then-eq.result) v)
+    (sym same)
+    (goes_on c.args.space.now i d t c.going_on-then-eq.result c.requires.sound (brcmp_keeps s i d t is)
+    (c.going_on-then-eq.ensures ∙ ap (next_of i) (held ∙ sym (brcmp_means s i d t is fit.first fit.second))))
 
-pub returns-in_ok-compute-in_default : goal.returns-in_ok-compute-in_default
-returns-in_ok-compute-in_default c d t =
-    let done = c.in_ok-compute-in_default.ensures d t in
-    let stays = falls c.args.space.now.vars c.args.i.now d t c.requires.runs c.in_default.not-Jmp c.in_default.not-Brcmp c.in_default.not-Brtst in
-    (done.0, done.1, sym (ap (next_of c.args.i.now) stays))
+-- ---- stores
 
-pub returns-in_err-compute-in_default : goal.returns-in_err-compute-in_default
-returns-in_err-compute-in_default c d t =
-    passed_on Done _ (values_after c.args.space.now.vars c.args.i.now d t) c.args.space.now c.compute.new.space c.in_err-compute-in_default.field-0.0 c.from_residual-in_err-compute-in_default.result c.from_residual-in_err-compute-in_default.ensures.1 (c.in_err-compute-in_default.ensures d t)
+pub compute-requires-clause-stores : goal.compute-requires-clause-stores
+compute-requires-clause-stores c =
+    let s = c.args.space.now.vars in
+    let i = c.args.i.now in
+    let same : c.run_ready.new.space ≡ c.args.space.now = (c.in_default.ensures {u = tt}).same refl in
+    let lists : on_numbers s i ≡ false = subst (IsReady s i 0) ((c.in_default.ensures {u = tt}).other refl) c.made_ready.ensures in
+    let other : i.op ≢ ops.Brcmp = λ e. let f : false ≡ true = c.if-eq.ensures {u = tt} ∙ ap (λ o. sameb the_type o ops.Brcmp) e in let g : ⊥ = cc in g in
+    let stored : stores i.op ≡ true = stores_value s i c.requires.runs other (λ e. (brtst_fit s i e c.requires.fit).has) lists in
+    stored
+
+pub compute-requires-clause-lists : goal.compute-requires-clause-lists
+compute-requires-clause-lists c =
+    let s = c.args.space.now.vars in
+    let i = c.args.i.now in
+    let same : c.run_ready.new.space ≡ c.args.space.now = (c.in_default.ensures {u = tt}).same refl in
+    let lists : on_numbers s i ≡ false = subst (IsReady s i 0) ((c.in_default.ensures {u = tt}).other refl) c.made_ready.ensures in
+    subst (λ (v : SpaceViews). on_numbers v.vars i ≡ false) (sym same) lists
+
+pub compute-requires-clause-sound : goal.compute-requires-clause-sound
+compute-requires-clause-sound c =
+    let s = c.args.space.now.vars in
+    let i = c.args.i.now in
+    let same : c.run_ready.new.space ≡ c.args.space.now = (c.in_default.ensures {u = tt}).same refl in
+    let lists : on_numbers s i ≡ false = subst (IsReady s i 0) ((c.in_default.ensures {u = tt}).other refl) c.made_ready.ensures in
+    subst (λ (v : SpaceViews). AreSound v.vars) (sym same) c.requires.sound
+
+pub compute-requires-clause-fit : goal.compute-requires-clause-fit
+compute-requires-clause-fit c =
+    let s = c.args.space.now.vars in
+    let i = c.args.i.now in
+    let same : c.run_ready.new.space ≡ c.args.space.now = (c.in_default.ensures {u = tt}).same refl in
+    let lists : on_numbers s i ≡ false = subst (IsReady s i 0) ((c.in_default.ensures {u = tt}).other refl) c.made_ready.ensures in
+    subst (λ (v : SpaceViews). AreFit v.vars.shapes (statement_in i)) (sym same) c.requires.fit
+
+pub returns : goal.returns
+returns c d t =
+    let s = c.args.space.now.vars in
+    let i = c.args.i.now in
+    let same : c.run_ready.new.space ≡ c.args.space.now = (c.in_default.ensures {u = tt}).same refl in
+    let lists : on_numbers s i ≡ false = subst (IsReady s i 0) ((c.in_default.ensures {u = tt}).other refl) c.made_ready.ensures in
+    let other : i.op ≢ ops.Brcmp = λ e. let f : false ≡ true = c.if-eq.ensures {u = tt} ∙ ap (λ o. sameb the_type o ops.Brcmp) e in let g : ⊥ = cc in g in
+    let stored : stores i.op ≡ true = stores_value s i c.requires.runs other (λ e. (brtst_fit s i e c.requires.fit).has) lists in
+    let done = subst (λ v. Does {T = Unit {0}} Done (values_after v.vars i d t) v (Ok tt) c.compute.new.space) same (c.in_ok-compute.ensures d t) in
+    let none = no_jump s i stored in
+    let stays = falls s i d t c.requires.runs none.0 none.1 none.2 in
+    (done.0, done.1, sym (ap (next_of i) stays))
+
+pub returns-in_err-compute : goal.returns-in_err-compute
+returns-in_err-compute c d t =
+    let s = c.args.space.now.vars in
+    let i = c.args.i.now in
+    let same : c.run_ready.new.space ≡ c.args.space.now = (c.in_default.ensures {u = tt}).same refl in
+    let lists : on_numbers s i ≡ false = subst (IsReady s i 0) ((c.in_default.ensures {u = tt}).other refl) c.made_ready.ensures in
+    let fault = c.in_err-compute.field-0.0 in
+    let done = subst (λ v. Does {T = Unit {0}} Done (values_after v.vars i d t) v (Err fault) c.compute.new.space) same (c.in_err-compute.ensures d t) in
+    passed_on Done _ (values_after s i d t) c.args.space.now c.compute.new.space fault c.from_residual-in_err-compute.result c.from_residual-in_err-compute.ensures.1 done

@@ -1,0 +1,8 @@
+-- How clumps are kept: definitions that no caller needs.
+
+-- The records of a file, and what clumps do, as the program keeps them.
+pub mod Records
+-- The queue, those who wait and the owners of mutexes, as the program keeps them.
+pub mod States
+-- The sleeper that wakes first.
+pub mod Sleepers

@@ -1,0 +1,4 @@
+pub mod Plans
+pub mod Clumps
+pub mod Answers
+pub mod Inside
