@@ -1,9 +1,8 @@
 // One clump: its fire count, its place and what it does.
 
 ghost use Rattle.std.specs.Prelude.{◌≡◌, ℕ, ◌==◌, if◌then◌else◌};
-ghost use Rattle.nxt_model.specs.Clumps.{Idle, Queued, is_idle, is_asleep, is_calling, is_blocked, with_activity, with_place, with_count, due_one};
+ghost use Rattle.nxt_model.specs.Clumps.{Idle, Queued, is_idle, is_asleep, is_calling, is_blocked, with_activity, with_place, with_count};
 ghost use Rattle.nxt_clumps.specs.Inside.Records.{activity_of};
-ghost use Rattle.nxt_clumps.specs.Inside.Sleepers.{due_at};
 
 use std::marker::Model;
 
@@ -77,16 +76,6 @@ impl Clump {
         ensures { result ≡ is_blocked self.now.activity }
     {
         matches!(self.doing, Doing::Waiting(_) | Doing::Calling)
-    }
-
-    /// The moment at which the clump wakes, if that is reached.
-    pub fn due(&self, clock: u64) -> Option<u64>
-        ensures { (c : ℕ) → due_one self.now.activity clock c ≡ due_at result c }
-    {
-        match self.doing {
-            Doing::Asleep(until) if until <= clock => Some(until),
-            _ => None,
-        }
     }
 
     pub fn set_count(&mut self, count: u8)

@@ -2,9 +2,10 @@
 
 ghost use Rattle.std.specs.Prelude.{◌≡◌, ◌+◌, ◌<◌, ◌≤◌, ◌^◌, ◌==◌, ◌&&◌, int_le, pos, length, IfOk, IfSome, IsSome, slice_get};
 ghost use Rattle.std.specs.List.{All};
-ghost use Rattle.nxt_model.specs.Clumps.{Asleep, clump, change_clump, clumps_at_start, with_place, rotate, count_one, leave, finish, lower_all, between, schedule, call, return_to, acquire, release, wake, some_activity, is_asleep, is_blocked};
+ghost use Rattle.nxt_model.specs.Clumps.{Asleep, clump, clumps_at_start, rotate, leave, finish, lower_all, between, schedule, call, return_to, acquire, release, wake, some_activity, is_asleep, is_blocked};
+ghost use Rattle.nxt_model.specs.Step.{turned};
 ghost use Rattle.nxt_clumps.specs.Plans.{plans_of, told};
-ghost use Rattle.nxt_clumps.specs.Clumps.{head};
+ghost use Rattle.nxt_clumps.specs.Clumps.{head, moved};
 ghost use Rattle.nxt_clumps.specs.Answers.{Rules, stop_in};
 
 use crate::fault::ClumpFault;
@@ -74,7 +75,7 @@ impl Clumps {
     /// How many bytecodes of the turn are done.
     pub fn turn(&self) -> u32
         ensures turn { result ≡ self.now.state.turn }
-        ensures short { result < 20 }
+        ensures short { result ≤ 20 }
     {
         u32::from(self.state.turn())
     }
@@ -90,13 +91,14 @@ impl Clumps {
         }
     }
 
-    /// Sets the statement at which the clump stands that runs.
-    pub fn set_place(&mut self, place: u32)
-        requires { IsSome (slice_get self.old.state.queue 0) }
-        ensures { self.new ≡ record self.old { state = change_clump (with_place place) (head self.old.state) self.old.state } }
+    /// The clump that runs stands at a place, with so many more bytecodes of its turn done.
+    pub fn advance(&mut self, place: u32, bytecodes: u32)
+        requires head { IsSome (slice_get self.old.state.queue 0) }
+        requires turn { self.old.state.turn + bytecodes ≤ 20 }
+        ensures { self.new ≡ record self.old { state = moved (head self.old.state) place bytecodes self.old.state } }
     {
         if let Some(h) = self.state.first() {
-            self.state.set_place(h, place);
+            self.state.advance(h, place, bytecodes as u8);
         }
     }
 
@@ -108,14 +110,12 @@ impl Clumps {
         self.state.rotate();
     }
 
-    /// Counts a bytecode of the turn. The 20th ends it, and the clump goes to the queue's end; the call tells whether it was that
-    /// one.
-    pub fn count_one(&mut self) -> bool
-        requires { IsSome (slice_get self.old.state.queue 0) }
-        ensures state { self.new ≡ record self.old { state = count_one self.old.state } }
-        ensures last { result ≡ (self.old.state.turn == 19) }
+    /// Ends a bytecode: after the 20th of a turn the clump that runs goes to the queue's end.
+    pub fn end_bytecode(&mut self)
+        ensures state { self.new ≡ record self.old { state = turned self.old.state } }
+        ensures short { self.new.state.turn < 20 }
     {
-        self.state.count_one()
+        self.state.end_bytecode();
     }
 
     /// The clump that runs ends, and lowers those of its dependents whose positions lie between two numbers ("finclump").

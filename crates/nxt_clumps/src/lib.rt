@@ -6,6 +6,7 @@ mod clump;
 pub mod clumps;
 pub mod fault;
 pub mod plan;
+mod sleeper;
 mod state;
 mod waiter;
 

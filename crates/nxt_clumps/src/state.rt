@@ -1,18 +1,21 @@
 // The clumps of a program that runs.
 
-ghost use Rattle.std.specs.Prelude.{◌≡◌, ℕ, ◌+◌, ◌<◌, ◌≤◌, ◌^◌, ◌==◌, ◌++◌, ◌∷◌, [], if◌then◌else◌, length, map, slice_get, IfOk, IfSome, Some, None, true, option_map, position, IsSome, List};
+ghost use Rattle.std.specs.Prelude.{◌≡◌, ℕ, ◌+◌, ◌<◌, ◌≤◌, ◌^◌, ◌==◌, ◌++◌, ◌∷◌, [], if◌then◌else◌, length, map, slice_get, IfOk, IfSome, Some, None, true, position, IsSome, List};
 ghost use Rattle.std.specs.Vec.{vec_capacity};
 ghost use Rattle.std.specs.VecDeque.{deque_capacity, deque_len};
-ghost use Rattle.nxt_model.specs.Clumps.{first_clump, first_queue, clumps_at_start, clump, change_clump, with_place, with_count, rotate, count_one, leave, enqueue, enqueue_at, retire, lower, call, return_to, wake, some_activity, is_blocked, acquire, release, hand_on, mutex, change_mutex, Free, Owned, Waiting, Asleep, is_idle, is_calling, is_asleep};
+ghost use Rattle.nxt_model.specs.Clumps.{first_clump, first_queue, clumps_at_start, clump, change_clump, with_place, with_count, rotate, leave, enqueue, enqueue_at, retire, lower, call, return_to, wake, some_activity, is_blocked, acquire, release, hand_on, mutex, change_mutex, Free, Owned, Waiting, Asleep, is_idle, is_calling, is_asleep};
+ghost use Rattle.nxt_model.specs.Step.{turned};
+ghost use Rattle.nxt_clumps.specs.Clumps.{moved};
 ghost use Rattle.nxt_clumps.specs.declared.waiter.Waiter.{Waiter};
 ghost use Rattle.nxt_clumps.specs.Inside.Records.{activity_of};
 ghost use Rattle.nxt_clumps.specs.Inside.States.{IsPlain, owner_in, waiters_in};
-ghost use Rattle.nxt_clumps.specs.Inside.Sleepers.{due_at, first_due, sooner};
+ghost use Rattle.nxt_clumps.specs.Inside.Sleepers.{in_order, due_part, first_number};
 ghost use Rattle.nxt_clumps.specs.Answers.{stop_in};
 
 use crate::clump::{Clump, Doing};
 use crate::fault::ClumpFault;
 use crate::plan::Plans;
+use crate::sleeper::{Sleeper, put_in_order};
 use crate::waiter::Waiter;
 use nxt_types::NoMemory;
 use std::alloc::Global;
@@ -34,8 +37,8 @@ pub(crate) struct State {
     owners: Vec<Option<u8>>,
     /// Those who wait for any mutex, in the order in which they came.
     waiting: Vec<Waiter>,
-    /// How many clumps sleep.
-    asleep: u8,
+    /// Those who sleep, in the order in which they wake.
+    sleepers: VecDeque<Sleeper>,
 }
 
 impl Model for State {
@@ -48,7 +51,7 @@ impl Model for State {
 
     ghost view = { λ s. clumps_of s.clumps.items s.queue.items s.turn s.owners.items s.waiting.items };
 
-    ghost invariant = { λ s. AreKept s.clumps.items s.queue.items s.turn s.asleep s.owners.items s.waiting.items (deque_capacity s.queue) (vec_capacity s.waiting) (vec_capacity s.clumps) };
+    ghost invariant = { λ s. AreKept s.clumps.items s.queue.items s.turn s.owners.items s.waiting.items s.sleepers.items (deque_capacity s.queue) (vec_capacity s.waiting) (deque_capacity s.sleepers) (vec_capacity s.clumps) };
 }
 
 impl State {
@@ -62,7 +65,7 @@ impl State {
             turn: 0,
             owners: vec![in alloc; None; entries as usize]?,
             waiting: Vec::with_capacity(alloc, CLUMPS)?,
-            asleep: 0,
+            sleepers: VecDeque::with_capacity(alloc, CLUMPS)?,
         };
         state.restart(plans);
         Ok(state)
@@ -76,7 +79,7 @@ impl State {
         self.turn = 0;
         self.owners.fill(None);
         self.waiting.clear();
-        self.asleep = 0;
+        self.sleepers.clear();
         start_clumps(plans, &mut self.clumps, &mut self.queue);
     }
 
@@ -89,7 +92,7 @@ impl State {
 
     pub fn turn(&self) -> u8
         ensures turn { result ≡ self.now.turn }
-        ensures short { result < 20 }
+        ensures short { result ≤ 20 }
     {
         self.turn
     }
@@ -139,17 +142,24 @@ impl State {
         self.turn = 0;
     }
 
-    /// Counts a bytecode of the turn, and tells whether it was the last one.
-    pub fn count_one(&mut self) -> bool
-        ensures state { self.new ≡ count_one self.old }
-        ensures last { result ≡ (self.old.turn == 19) }
+    /// A clump stands at a place, with so many more bytecodes of its turn done.
+    pub fn advance(&mut self, c: u8, place: u32, bytecodes: u8)
+        requires inside { c < length self.old.clumps }
+        requires turn { self.old.turn + bytecodes ≤ 20 }
+        ensures { self.new ≡ moved c place bytecodes self.old }
     {
-        if self.turn == TURN_BYTECODES - 1 {
+        self.clumps[usize::from(c)].set_place(place);
+        self.turn += bytecodes;
+    }
+
+    /// Ends a bytecode: after the 20th of a turn the first of the queue goes to its end.
+    pub fn end_bytecode(&mut self)
+        ensures state { self.new ≡ turned self.old }
+        ensures short { self.new.turn < 20 }
+    {
+        if self.turn == TURN_BYTECODES {
             self.rotate();
-            return true;
         }
-        self.turn += 1;
-        false
     }
 
     /// The clump that runs leaves the queue, which ends the turn. It becomes idle, or waits for a subroutine.
@@ -276,35 +286,39 @@ impl State {
         self.queue.pop_front();
         self.clumps[usize::from(h)].set_doing(Doing::Asleep(until));
         self.turn = 0;
-        self.asleep += 1;
+        put_in_order(
+            &mut self.sleepers,
+            Sleeper {
+                moment: until,
+                clump: h,
+            },
+        );
     }
 
-    /// A clump that sleeps goes to the queue's end.
+    /// The sleeper that wakes first goes to the queue's end.
     fn wake_one(&mut self, c: u8)
-        requires inside { c < length self.old.clumps }
-        requires asleep { is_asleep (clump self.old c).activity ≡ true }
+        requires { first_number (in_order self.old.clumps) ≡ Some c }
         ensures state { self.new ≡ enqueue c self.old }
         ensures kept { length self.new.clumps ≡ length self.old.clumps }
     {
+        self.sleepers.pop_front();
         self.queue.push_back_reserved(c);
         self.clumps[usize::from(c)].set_doing(Doing::Queued);
-        self.asleep -= 1;
     }
 
-    /// The sleeper that wakes first, of those whose moment is reached.
+    /// The sleeper that wakes first, if its moment is reached.
     fn next_due(&self, clock: u64) -> Option<u8>
-        ensures first { result ≡ option_map (λ x. x.1) (first_due clock 0 self.now.clumps) }
-        ensures inside { IfSome result (λ c. c < length self.now.clumps) }
-        ensures asleep { IfSome result (λ c. is_asleep (clump self.now c).activity ≡ true) }
+        ensures { result ≡ first_number (due_part clock (in_order self.now.clumps)) }
     {
-        if self.asleep == 0 {
-            return None;
+        let first = self.sleepers.front()?;
+        if first.moment <= clock {
+            Some(first.clump)
+        } else {
+            None
         }
-        let (_, c) = first_due(self.clumps.as_slice(), clock)?;
-        Some(c)
     }
 
-    /// Queues every sleeper whose moment is reached, the earliest first. It does nothing where nobody sleeps.
+    /// Queues every sleeper whose moment is reached, the earliest first. It looks at those and at the first of the others.
     pub fn wake(&mut self, clock: u64)
         ensures state { self.new ≡ wake clock self.old }
         ensures kept { length self.new.clumps ≡ length self.old.clumps }
@@ -393,7 +407,7 @@ impl State {
     pub fn sleeping(&self) -> bool
         ensures { result ≡ some_activity is_asleep self.now }
     {
-        self.asleep > 0
+        !self.sleepers.is_empty()
     }
 
     pub fn blocked(&self) -> bool
@@ -431,30 +445,6 @@ fn queue_first(queue: &mut VecDeque<u8>, fire: u8, c: u8)
 {
     if fire == 0 {
         queue.push_back_reserved(c);
-    }
-}
-
-/// The sleeper that wakes first, with its moment, of those whose moment is reached.
-fn first_due(clumps: &[Clump], clock: u64) -> Option<(u64, u8)>
-    requires { length clumps.now ≤ 255 }
-    ensures { result ≡ first_due clock 0 clumps.now }
-{
-    let mut first = None;
-    for c in (0..clumps.len()).rev() {
-        first = sooner(clumps[c].due(clock), c as u8, first);
-    }
-    first
-}
-
-/// The earlier of two sleepers, and at one moment the first of them.
-fn sooner(due: Option<u64>, c: u8, later: Option<(u64, u8)>) -> Option<(u64, u8)>
-    ensures { result ≡ sooner (due_at due c) later }
-{
-    match (due, later) {
-        (None, later) => later,
-        (Some(moment), None) => Some((moment, c)),
-        (Some(moment), Some(other)) if moment <= other.0 => Some((moment, c)),
-        (Some(_), later) => later,
     }
 }
 

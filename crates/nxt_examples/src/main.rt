@@ -17,12 +17,13 @@ enum Command {
     Check,
 }
 
-const EXAMPLES: [(&str, Command); 12] = [
+const EXAMPLES: [(&str, Command); 13] = [
     ("motor", Command::Run),
     ("rising", Command::Run),
     ("average", Command::Run),
     ("log", Command::Run),
     ("fills", Command::Run),
+    ("shared_motor", Command::Run),
     ("lost_jump", Command::Run),
     ("motor", Command::Check),
     ("average", Command::Check),

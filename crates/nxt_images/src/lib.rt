@@ -48,8 +48,12 @@ pub type Row = (u16, u16, u16);
 /// A statement: its operation, its comparison, and its operands.
 pub type Statement<'a> = (Op, Cmp, &'a [u16]);
 
+/// How a clump is set going, and what it sets going: its fire count, and its dependents.
+pub type Firing<'a> = (u8, &'a [u8]);
+
 /// A program: its table, its static bytes and their defaults, the rows of its table of rows, the bytes behind them, how many
-/// zeros the data ends with, the words at which its clumps start, and its statements.
+/// zeros the data ends with, the words at which its clumps start, the firing of the clumps from the first on, and its
+/// statements. A clump whose firing isn't told has the fire count 0 and no dependents.
 #[derive(Clone, Copy)]
 pub struct Image<'a> {
     pub entries: &'a [Entry],
@@ -59,6 +63,7 @@ pub struct Image<'a> {
     pub lists: &'a [u8],
     pub zeros: u16,
     pub clumps: &'a [u16],
+    pub firing: &'a [Firing<'a>],
     pub code: &'a [Statement<'a>],
 }
 
@@ -70,6 +75,7 @@ pub const EMPTY: Image<'static> = Image {
     lists: &[],
     zeros: 0,
     clumps: &[],
+    firing: &[],
     code: &[],
 };
 
@@ -124,17 +130,26 @@ fn entries_of(alloc: Global, image: &Image) -> Result<Entries, Fail> {
     Ok(entries)
 }
 
-// Records of clumps that nothing depends on.
 fn clumps_of(alloc: Global, image: &Image) -> Result<ClumpRecs, Fail> {
     let mut clumps = ClumpRecs::new(alloc);
-    for start in image.clumps {
+    for (c, start) in image.clumps.iter().enumerate() {
+        let (fire, dependents) = image.firing.get(c).copied().unwrap_or((0, &[]));
         clumps.push(ClumpRec {
-            fire: 0,
-            dependents: 0,
+            fire,
+            dependents: u8::try_from(dependents.len())?,
             start: *start,
         })?;
     }
     Ok(clumps)
+}
+
+// The dependents of all clumps, one list behind another.
+fn all_dependents(alloc: Global, image: &Image) -> Result<Bytes, Fail> {
+    let mut all = Bytes::new(alloc);
+    for (_fire, dependents) in image.firing {
+        all.append(dependents)?;
+    }
+    Ok(all)
 }
 
 fn header_of(image: &Image, dynamic: usize, words: usize) -> Result<Header, Fail> {
@@ -203,7 +218,7 @@ pub fn parts_of(alloc: Global, image: &Image) -> Result<Parts, Fail>
         toc: entries_of(alloc, image)?,
         defaults,
         clumps: clumps_of(alloc, image)?,
-        dependents: Bytes::new(alloc),
+        dependents: all_dependents(alloc, image)?,
         code,
     };
     if !has_counts(&parts) || !has_dynamic(&parts.header) {

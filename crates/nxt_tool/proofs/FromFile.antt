@@ -4,5 +4,5 @@
 pub mod Faults
 -- What holds of the parts of a file that breaks no rule, by their layout.
 pub mod Parts
--- The program that is made of an accepted file.
-pub mod Program
+-- The machine that is made of an accepted file.
+pub mod Machine

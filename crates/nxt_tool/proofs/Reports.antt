@@ -8,3 +8,5 @@ pub mod ScriptRows
 pub mod Statuses
 -- One piece of a text after another.
 pub mod Pieces
+-- The text of bytecodes, and of a row.
+pub mod Runs

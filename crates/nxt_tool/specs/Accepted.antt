@@ -2,6 +2,7 @@
 use Rattle.std.specs.Prelude.{◌≡◌, ℕ, List, [], ◌∷◌, map, codes, decimal, true, false}
 use Rattle.nxt_types.specs.Refusals.{IsRefusal, IsAccepted}
 use Rattle.nxt_types.specs.Shapes.{Members}
+use Rattle.nxt_types.specs.Statements.{statements}
 use Rattle.nxt_rxe.specs.declared.parts.Parts.{Parts}
 use Rattle.nxt_rxe.specs.Files.{IsFile, HasCounts}
 use Rattle.nxt_rxe.specs.FileRules as file_rules
@@ -14,7 +15,7 @@ use Rattle.nxt_code.specs.declared.code.Code.{Code as AcceptedCode}
 use Rattle.nxt_model.specs.Image.{Image}
 use Rattle.nxt_model.specs.Values.{Value}
 use Rattle.nxt_model.specs.LineText.{line_of}
-use Rattle.nxt_tool.specs.RunsToday.{runs}
+use Rattle.nxt_machine.specs.RunsToday.{are_built}
 use Rattle.nxt_tool.specs.declared.fault.Refusal.{Refusal}
 use Rattle.nxt_tool.specs.declared.fault.Refusal.TheVariants.{Sections, Layout, Code, Unbuilt}
 use Rattle.nxt_tool.specs.declared.fault.AcceptFault.{AcceptFault}
@@ -52,7 +53,7 @@ pub record IsRun (p : Parts) (image : Image) : Type 0 where
   pub sound : BreaksNone p shapes
   pub vars : Value
   pub starts : StartsAs p shapes vars
-  pub runs : runs p shapes ≡ true
+  pub runs : are_built shapes (statements p.code) ≡ true
   pub image_is : image ≡ image_of p shapes vars
 
 -- the bytes are a file with this image
@@ -89,7 +90,7 @@ RefusesParts p (Sections f) = ⊥
 RefusesParts p (Layout f) = IsRefusal (layout_rules.Broken p) layout_rules.rank f
 RefusesParts p (Code f) =
     IsAccepted (layout_rules.Broken p) × (ss : Members) × HasShapes p ss × IsRefusal (code_rules.Broken (code_in p ss)) code_rules.rank f
-RefusesParts p Unbuilt = (ss : Members) × BreaksNone p ss × (runs p ss ≡ false)
+RefusesParts p Unbuilt = (ss : Members) × BreaksNone p ss × (are_built ss (statements p.code) ≡ false)
 
 -- the file is refused: by the first broken rule of its sections, or for its parts
 abbrev pub IsRefused : List ℕ → Refusal → Type 0

@@ -12,9 +12,8 @@ use Rattle.nxt_tool.specs.Accepted.{IsAcceptedAs, IsSoundFile, IsRefused, Breaks
 use Rattle.nxt_tool.specs.Refused.{told}
 use Rattle.nxt_tool.specs.declared.fault.Refusal.{Refusal}
 use Rattle.nxt_tool.specs.Statuses.{status_of}
-use Rattle.nxt_tool.specs.Plain.{held}
 use Rattle.nxt_tool.specs.Rows.{Given, given, at_first}
-use Rattle.nxt_tool.specs.Running.{report, plain_row}
+use Rattle.nxt_tool.specs.Running.{held, report, plain_row}
 use Rattle.nxt_edge.specs.declared.read_write.ReadAllFault.{ReadAllFault}
 use Rattle.nxt_edge.specs.declared.read_write.ReadAllFault.TheVariants as read
 use Rattle.nxt_tool.specs.declared.writing.Fault.{Fault}

@@ -11,8 +11,6 @@ use Rattle.nxt_code.specs.declared.fault.CodeFault.TheVariants as code
 use Rattle.nxt_code.specs.CodeRules as code_rules
 use Rattle.nxt_tool.specs.declared.fault.Refusal.{Refusal}
 use Rattle.nxt_tool.specs.declared.fault.Refusal.TheVariants.{Sections, Layout, Code, Unbuilt}
-use Rattle.nxt_tool.specs.declared.fault.ProgramFault.{ProgramFault}
-use Rattle.nxt_tool.specs.declared.fault.ProgramFault.TheVariants as programs
 use Rattle.nxt_tool.specs.declared.fault.AcceptFault.{AcceptFault}
 use Rattle.nxt_tool.specs.declared.fault.AcceptFault.TheVariants.{Refused, NoMemory}
 
@@ -35,7 +33,3 @@ of_layout f = Refused (Layout f)
 abbrev pub of_code : CodeFault → AcceptFault
 of_code code.NoMemory = NoMemory
 of_code f = Refused (Code f)
-
-abbrev pub of_program : ProgramFault → AcceptFault
-of_program programs.NoMemory = NoMemory
-of_program programs.Unbuilt = Refused Unbuilt

@@ -4,27 +4,31 @@ ghost use Rattle.std.specs.Prelude.{◌≡◌, MatchResult, IfOk};
 ghost use Rattle.nxt_types.specs.BrokenRules.{rule_and_place};
 ghost use Rattle.nxt_rxe.specs.declared.parts.Parts.{Parts as FileParts};
 ghost use Rattle.nxt_rxe.specs.Files.{HasCounts, Fits, IsFile};
-ghost use Rattle.nxt_tool.specs.Plain.{IsProgram, IsAtStart, image_in};
+ghost use Rattle.nxt_model.specs.Image.{program_of};
+ghost use Rattle.nxt_model.specs.Program.{start};
 ghost use Rattle.nxt_tool.specs.Accepted.{IsJudged, IsSoundFile, IsAcceptedAs, HasBreak, HasCause, PartsCause, accepted_line, refused_line};
 ghost use Rattle.nxt_tool.specs.Refused.{told};
 
 use crate::fault::{AcceptFault, Refusal};
-use crate::program::{Program, program_of};
 use nxt_code::{Code, check_code};
 use nxt_layout::{Layout, check_layout};
+use nxt_machine::{Machine, runs};
 use nxt_model::text::{count_line, number_line};
 use nxt_rxe::{Parts, read_rxe};
 use nxt_types::refusal::{BrokenRule, Place};
 use nxt_types::{Bytes, NoMemory};
 use std::alloc::Global;
 
-/// The program of a file, or why there is none.
-pub fn accept(alloc: Global, bytes: &[u8]) -> Result<Program, AcceptFault>
-    ensures made { IfOk result (λ p. IsProgram p × IsAtStart p) }
-    ensures accepted { MatchResult result (λ p. IsAcceptedAs bytes.now (image_in p)) (HasCause bytes.now) }
+/// The machine of a file's program at its start, or why there is none.
+pub fn accept(alloc: Global, bytes: &[u8]) -> Result<Machine, AcceptFault>
+    ensures start { IfOk result (λ m. m.state ≡ start (program_of m.image)) }
+    ensures accepted { MatchResult result (λ m. IsAcceptedAs bytes.now m.image) (HasCause bytes.now) }
 {
     let (layout, code) = judged(alloc, bytes)?;
-    Ok(program_of(alloc, layout, code)?)
+    if !runs(layout.toc(), &code.decoded) {
+        return Err(AcceptFault::Refused(Refusal::Unbuilt));
+    }
+    Ok(Machine::new(alloc, layout, code)?)
 }
 
 /// The bytes of the pool that the start of a file needs, or the first rule that the file breaks.

@@ -1,20 +1,20 @@
 ghost use Rattle.std.specs.Prelude.{◌≡◌, ◌⊎◌, ◌↔◌, ℕ, ◌≤◌, List, [], Option, Some, None};
 ghost use Rattle.nxt_edge.specs.Edge.{Rose, AreBytes};
 ghost use Rattle.nxt_tool.specs.Due.{Answer, Meets, read_status, write_status, answer_given, answer_to, refused_answer, sound_answer, Run, CheckOf, Due, UsesProgram, ReadsScript, UsesScript, Accepts, MayReadScript, Answers, IsQuiet, NotRefused};
-ghost use Rattle.nxt_tool.specs.Plain.{IsProgram, IsAtStart, image_in};
+ghost use Rattle.nxt_model.specs.Image.{program_of};
+ghost use Rattle.nxt_model.specs.Program.{start};
 ghost use Rattle.nxt_tool.specs.Rows.{given, at_first};
 ghost use Rattle.nxt_tool.specs.Words.{command_of, texts_of};
 ghost use Rattle.nxt_tool.specs.declared.words.Command.TheVariants.{RunRxe};
 
 use crate::accept::{accept, check, footprint_line, refusal_line};
 use crate::fault::{AcceptFault, Refusal};
-use crate::machine::Machine;
-use crate::program::Program;
 use crate::running::run_script;
 use crate::status::Status;
 use crate::words::{Command, form_of};
 use crate::writing::{Fault, put};
 use nxt_edge::{ReadAllFault, Sink, Source, read_all};
+use nxt_machine::Machine;
 use std::alloc::Global;
 
 const MOST_PROGRAM: usize = 262_144;
@@ -40,33 +40,31 @@ fn of_write(fault: Fault) -> Status
     }
 }
 
-// Runs a script's bytes over a program.
-fn run_bytes<R: Sink>(alloc: Global, program: Program, bytes: &[u8], report: &mut R) -> Status
-    requires program { IsProgram program }
-    requires start { IsAtStart program }
-    ensures told { Meets result (answer_given (image_in program) (given (at_first bytes.now))) (R.written report.old) (R.written report.new) }
+// Runs a script's bytes on a machine.
+fn run_bytes<R: Sink>(alloc: Global, machine: Machine, bytes: &[u8], report: &mut R) -> Status
+    requires start { machine.state ≡ start (program_of machine.image) }
+    ensures told { Meets result (answer_given machine.image (given (at_first bytes.now))) (R.written report.old) (R.written report.new) }
     ensures write { result ≡ Status.WriteFault → Rose (R.faults report.old) (R.faults report.new) }
     ensures report { R.faults report.old ≤ R.faults report.new }
     ensures read { result ≡ Status.ReadFault → ⊥ }
     ensures accepted { NotRefused result }
 {
-    let mut machine = Machine::new(program);
+    let mut machine = machine;
     match run_script(alloc, &mut machine, bytes, report) {
         Ok(status) => status,
         Err(fault) => of_write(fault),
     }
 }
 
-// Runs a script over a program, and reports.
+// Runs a script on a machine, and reports.
 fn run_program<Q: Source, R: Sink>(
     alloc: Global,
-    program: Program,
+    machine: Machine,
     script: &mut Q,
     report: &mut R,
 ) -> Status
-    requires program { IsProgram program }
-    requires start { IsAtStart program }
-    ensures told { (s : List ℕ) → Q.left script.old ≡ Some s → Meets result (answer_to (image_in program) s) (R.written report.old) (R.written report.new) }
+    requires start { machine.state ≡ start (program_of machine.image) }
+    ensures told { (s : List ℕ) → Q.left script.old ≡ Some s → Meets result (answer_to machine.image s) (R.written report.old) (R.written report.new) }
     ensures read { result ≡ Status.ReadFault → Rose (Q.faults script.old) (Q.faults script.new) }
     ensures write { result ≡ Status.WriteFault → Rose (R.faults report.old) (R.faults report.new) }
     ensures script { Q.faults script.old ≤ Q.faults script.new }
@@ -77,7 +75,7 @@ fn run_program<Q: Source, R: Sink>(
         Ok(bytes) => bytes,
         Err(fault) => return of_read(fault),
     };
-    run_bytes(alloc, program, bytes.as_slice(), report)
+    run_bytes(alloc, machine, bytes.as_slice(), report)
 }
 
 // Writes the line of a refused program.
@@ -115,7 +113,7 @@ fn run<P: Source, Q: Source, R: Sink>(
         Err(fault) => return of_read(fault),
     };
     match accept(alloc, bytes.as_slice()) {
-        Ok(program) => run_program(alloc, program, script, report),
+        Ok(machine) => run_program(alloc, machine, script, report),
         Err(AcceptFault::NoMemory) => Status::NoMemory,
         Err(AcceptFault::Refused(refusal)) => refuse(alloc, refusal, report),
     }

@@ -2,8 +2,8 @@
 
 ghost use Rattle.std.specs.Prelude.{◌≡◌, IfOk, OnErr};
 ghost use Rattle.nxt_types.specs.BrokenRules.{rule_and_place};
-ghost use Rattle.nxt_tool.specs.Refused.{told, of_sections, of_layout, of_code, of_program};
-ghost use Rattle.nxt_tool.specs.declared.fault.ProgramFault.TheVariants.{NoMemory as no_memory};
+ghost use Rattle.nxt_tool.specs.Refused.{told, of_sections, of_layout, of_code};
+ghost use Rattle.nxt_tool.specs.declared.fault.AcceptFault.TheVariants.{NoMemory as no_memory};
 
 use nxt_code::CodeFault;
 use nxt_layout::LayoutFault;
@@ -35,22 +35,6 @@ impl Refusal {
             Refusal::Code(fault) => fault.broken_rule(),
             Refusal::Unbuilt => Ok(BrokenRule::whole(0)),
         }
-    }
-}
-
-/// Why no program was made.
-#[derive(Clone, Copy, Debug, PartialEq, Eq)]
-pub enum ProgramFault {
-    NoMemory,
-    /// It is none of those that run today.
-    Unbuilt,
-}
-
-impl From<memory::NoMemory> for ProgramFault {
-    ghost from_gives = { λ _ f. f ≡ no_memory };
-
-    fn from(_: memory::NoMemory) -> Self {
-        ProgramFault::NoMemory
     }
 }
 
@@ -94,13 +78,10 @@ impl From<CodeFault> for AcceptFault {
     }
 }
 
-impl From<ProgramFault> for AcceptFault {
-    ghost from_gives = { λ f a. a ≡ of_program f };
+impl From<memory::NoMemory> for AcceptFault {
+    ghost from_gives = { λ _ a. a ≡ no_memory };
 
-    fn from(fault: ProgramFault) -> Self {
-        match fault {
-            ProgramFault::NoMemory => AcceptFault::NoMemory,
-            ProgramFault::Unbuilt => AcceptFault::Refused(Refusal::Unbuilt),
-        }
+    fn from(_: memory::NoMemory) -> Self {
+        AcceptFault::NoMemory
     }
 }

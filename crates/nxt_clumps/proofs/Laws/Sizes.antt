@@ -1,9 +1,11 @@
 -- No rule changes how many clumps or mutexes there are.
-use Rattle.std.proofs.Common.{◌≡◌, ℕ, ◌+◌, ◌-◌, Bool, true, false, if◌then◌else◌, List, [], ◌∷◌, ◌++◌, length, ℤ, Option, Some, None, refl, ◌∙◌, length-set, ◌==◌}
+use Rattle.std.proofs.Common.{◌≡◌, ℕ, ◌-◌, Bool, true, false, if◌then◌else◌, List, [], ◌∷◌, ◌++◌, length, ℤ, Option, Some, None, refl, ◌∙◌, length-set, ◌==◌}
 use Rattle.std.specs.Prelude.{nat_lt}
 use Rattle.std.proofs.lemmas.List.{length-map, length-replicate}
 use Rattle.nxt_model.specs.declared.line.Stop.{Stop}
-use Rattle.nxt_model.specs.Clumps.{Plan, Activity, Idle, Queued, Waiting, Calling, Clump, Clumps, Mutex, Free, Owned, Ruled, first_clump, change_clump, change_mutex, leave, enqueue, enqueue_at, retire, rotate, count_one, is_idle, is_calling, clump, mutex, lower, lower_all, unless_stopped, between, finish, schedule, call, return_to, acquire, acquire_at, hand_on, release, release_at, enqueue_all, by_moment, due_from, wake, clumps_at_start, plan_of}
+use Rattle.nxt_model.specs.Step.{turned}
+use Rattle.nxt_clumps.specs.Clumps.{moved}
+use Rattle.nxt_model.specs.Clumps.{Plan, Activity, Idle, Queued, Waiting, Calling, Clump, Clumps, Mutex, Free, Owned, Ruled, first_clump, change_clump, change_mutex, leave, enqueue, enqueue_at, retire, with_place, rotate, is_idle, is_calling, clump, mutex, lower, lower_all, unless_stopped, between, finish, schedule, call, return_to, acquire, acquire_at, hand_on, release, release_at, enqueue_all, by_moment, due_from, wake, clumps_at_start, plan_of}
 
 pub record SameSizes (old new : Clumps) : Type 0 where
   pub clumps : length new.clumps ≡ length old.clumps
@@ -27,12 +29,15 @@ sizes-change_mutex m x s = record { clumps = refl; mutexes = length-set s.mutexe
 pub sizes-rotate : (s : Clumps) → SameSizes s (rotate s)
 sizes-rotate s = record { clumps = refl; mutexes = refl }
 
-if_last : (b : Bool) (s : Clumps) → SameSizes s (if b then rotate s else record s { turn = s.turn + 1 })
-if_last true s = record { clumps = refl; mutexes = refl }
-if_last false s = record { clumps = refl; mutexes = refl }
+pub sizes-moved : (h place n : ℕ) (s : Clumps) → SameSizes s (moved h place n s)
+sizes-moved h place n s = record { clumps = (sizes-change_clump (with_place place) h s).clumps; mutexes = refl }
 
-pub sizes-count_one : (s : Clumps) → SameSizes s (count_one s)
-sizes-count_one s = if_last (s.turn == 19) s
+if_turned : (b : Bool) (s : Clumps) → SameSizes s (if b then rotate s else s)
+if_turned true s = sizes-rotate s
+if_turned false s = same s
+
+pub sizes-turned : (s : Clumps) → SameSizes s (turned s)
+sizes-turned s = if_turned (s.turn == 20) s
 
 pub sizes-leave : (a : Activity) (h : ℕ) (s : Clumps) → SameSizes s (leave a h s)
 sizes-leave a h s = record { clumps = (sizes-change_clump (λ k. record k { activity = a }) h s).clumps; mutexes = refl }

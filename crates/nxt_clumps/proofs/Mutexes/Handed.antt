@@ -6,9 +6,11 @@ use Rattle.std.proofs.lemmas.Bool.{cases_eq}
 use Rattle.std.proofs.lemmas.List.{get_or-set_same, get_or-set_other, get_or-map, length-map, map-append, take-map}
 use Rattle.std.specs.List.{drop-map}
 use Rattle.nxt_model.specs.Clumps.{Activity, Idle, Queued, Asleep, Waiting, Calling, Clump, Mutex, Free, no_clump, is_asleep, with_activity, hand_on}
+use Rattle.nxt_clumps.specs.declared.sleeper.Sleeper.{Sleeper}
 use Rattle.nxt_clumps.specs.declared.waiter.Waiter.{Waiter}
-use Rattle.nxt_clumps.specs.Inside.States.{is_queued, is_waiting, one, activity_at, AreThose, AreKept, numbers_of, waiters, waiters_in, mutex_with, mutexes_from, clumps_of}
-use Rattle.nxt_clumps.proofs.Queue.Members.{those-pass, those-within, those-less, those-more, how_many-set}
+use Rattle.nxt_clumps.specs.Inside.States.{is_queued, is_waiting, activity_at, AreThose, AreKept, numbers_of, waiters, waiters_in, mutex_with, mutexes_from, clumps_of}
+use Rattle.nxt_clumps.proofs.Queue.Members.{those-pass, those-within, those-less, those-more}
+use Rattle.nxt_clumps.proofs.Sleepers.Changed.{order-awake}
 use Rattle.nxt_clumps.proofs.Mutexes.Entries.{mutexes-set, mutex-at}
 use Rattle.nxt_clumps.proofs.Mutexes.FirstWaiter.{IsFirst}
 
@@ -33,15 +35,15 @@ freed clumps queue turn owners waiting m i inside some same none =
     (mutexes-set 0 owners waiting waiting m m None inside (omega arith) (λ n e. refl))
     ∙ ap (λ (ws : List ℕ). hand_on ws m s) (sym (waiters-held owners waiting m inside some ∙ none))
 
-pub kept-freed : (clumps : List Clump) (queue : List ℕ) (turn asleep : ℕ) (owners : List (Option ℕ)) (waiting : List Waiter) (r s t m i : ℕ)
-    → AreKept clumps queue turn asleep owners waiting r s t → i ≡ m → waiters m waiting ≡ []
-    → AreKept clumps queue turn asleep (set owners i None) waiting r s t
-kept-freed clumps queue turn asleep owners waiting r s t m i kept same none =
+pub kept-freed : (clumps : List Clump) (queue : List ℕ) (turn : ℕ) (owners : List (Option ℕ)) (waiting : List Waiter) (sleepers : List Sleeper) (r s t u m i : ℕ)
+    → AreKept clumps queue turn owners waiting sleepers r s t u → i ≡ m → waiters m waiting ≡ []
+    → AreKept clumps queue turn (set owners i None) waiting sleepers r s t u
+kept-freed clumps queue turn owners waiting sleepers r s t u m i kept same none =
     record {
       few = kept.few;
       queued = kept.queued;
       waits = kept.waits;
-      sleepers = kept.sleepers;
+      asleep = kept.asleep;
       free = λ n e. elim (cases_eq n m) [
         | inl d ↦ ap (λ (n : ℕ). waiters n waiting) d ∙ none
         | inr d ↦ kept.free n (sym (get_or-set_other owners i n None None (λ f. d (f ∙ same))) ∙ e)
@@ -49,6 +51,7 @@ kept-freed clumps queue turn asleep owners waiting r s t m i kept same none =
       short = kept.short;
       queue_room = kept.queue_room;
       waiting_room = kept.waiting_room;
+      sleepers_room = kept.sleepers_room;
       clump_room = kept.clump_room;
     }
 
@@ -95,14 +98,14 @@ is_waiter clumps waiting i w those inside e =
       waits = ap (λ (n : ℕ). is_waiting (activity_at clumps n)) (sym number) ∙ those-pass is_waiting clumps (numbers_of waiting) i those within;
     }
 
-pub kept-handed : (clumps : List Clump) (queue : List ℕ) (turn asleep : ℕ) (owners : List (Option ℕ)) (waiting : List Waiter) (r s t m at n : ℕ) (k d : Clump) (w : Waiter)
+pub kept-handed : (clumps : List Clump) (queue : List ℕ) (turn : ℕ) (owners : List (Option ℕ)) (waiting : List Waiter) (sleepers : List Sleeper) (r s t u m at n : ℕ) (k d : Clump) (w : Waiter)
     (i j : ℕ) (queue' : List ℕ) (waiting' : List Waiter) (r' s' : ℕ)
-    → AreKept clumps queue turn asleep owners waiting r s t → m < length owners → IsFirst m waiting at w → IsWaiter clumps waiting at n → k.activity ≡ Queued
+    → AreKept clumps queue turn owners waiting sleepers r s t u → m < length owners → IsFirst m waiting at w → IsWaiter clumps waiting at n → k.activity ≡ Queued
     → i ≡ n → j ≡ m → queue' ≡ queue ++ n ∷ [] → waiting' ≡ remove waiting at → r' ≡ r → s' ≡ s
-    → AreKept (set clumps i k) queue' turn asleep (set owners j (Some n)) waiting' r' s' t
-kept-handed clumps queue turn asleep owners waiting r s t m at n k d w i j queue' waiting' r' s' kept entry first waiter is same same' pushed removed room room' =
-    let At : ℕ → Type 0 = λ i. AreKept (set clumps i k) queue' turn asleep (set owners j (Some n)) waiting' r' s' t in
-    let With : List Waiter → Type 0 = λ ws. AreKept (set clumps n k) queue' turn asleep (set owners j (Some n)) ws r' s' t in
+    → AreKept (set clumps i k) queue' turn (set owners j (Some n)) waiting' sleepers r' s' t u
+kept-handed clumps queue turn owners waiting sleepers r s t u m at n k d w i j queue' waiting' r' s' kept entry first waiter is same same' pushed removed room room' =
+    let At : ℕ → Type 0 = λ i. AreKept (set clumps i k) queue' turn (set owners j (Some n)) waiting' sleepers r' s' t u in
+    let With : List Waiter → Type 0 = λ ws. AreKept (set clumps n k) queue' turn (set owners j (Some n)) ws sleepers r' s' t u in
     let Queue : List ℕ → Type 0 = λ q. AreThose is_queued (set clumps n k) q in
     let Numbers : List ℕ → Type 0 = λ ns. AreThose is_waiting (set clumps n k) ns in
     let Number : ℕ → Type 0 = λ n. AreThose is_waiting (set clumps n k) (remove (numbers_of waiting) at) in
@@ -112,7 +115,7 @@ kept-handed clumps queue turn asleep owners waiting r s t m at n k d w i j queue
       queued = subst Queue (sym pushed) (those-more is_queued clumps queue n k kept.queued waiter.inside (waiting-not_queued was waiter.waits) (ap is_queued is));
       waits = subst Numbers (sym (numbers-remove waiting at))
           (subst Number waiter.number (those-less is_waiting clumps (numbers_of waiting) at k refl kept.waits waiter.position (ap is_waiting is)));
-      sleepers = omega (arith, kept.sleepers, how_many-set is_asleep clumps n k waiter.inside, ap one (waiting-not_asleep was waiter.waits), ap (λ (a : Activity). one (is_asleep a)) is);
+      asleep = kept.asleep ∙ sym (order-awake clumps n k (ap is_asleep is) (waiting-not_asleep was waiter.waits));
       free = λ e none. elim (cases_eq e m) [
         | inl f ↦
             let owned : get_or (set owners j (Some n)) e None ≡ Some n =
@@ -124,6 +127,7 @@ kept-handed clumps queue turn asleep owners waiting r s t m at n k d w i j queue
       short = kept.short;
       queue_room = omega (arith, kept.queue_room, room);
       waiting_room = omega (arith, kept.waiting_room, room');
+      sleepers_room = kept.sleepers_room;
       clump_room = kept.clump_room;
     }))
 

@@ -4,10 +4,12 @@ use Rattle.std.specs.Prelude.{slice_get}
 use Rattle.std.proofs.lemmas.Bool.{cases_eq}
 use Rattle.std.proofs.lemmas.List.{set-get_or, get_or_default, map-append, length-map}
 use Rattle.nxt_model.specs.Clumps.{Activity, Waiting, Clump, Mutex, Free, Owned, no_clump, is_asleep, with_activity, leave, change_mutex}
+use Rattle.nxt_clumps.specs.declared.sleeper.Sleeper.{Sleeper}
 use Rattle.nxt_clumps.specs.declared.waiter.Waiter.{Waiter}
-use Rattle.nxt_clumps.specs.Inside.States.{is_queued, is_waiting, one, activity_at, AreThose, AreKept, numbers_of, waiters, mutex_with, mutexes_from, clumps_of}
-use Rattle.nxt_clumps.proofs.Queue.Members.{those-more, those-room, how_many-set}
+use Rattle.nxt_clumps.specs.Inside.States.{is_queued, is_waiting, activity_at, AreThose, AreKept, numbers_of, waiters, mutex_with, mutexes_from, clumps_of}
+use Rattle.nxt_clumps.proofs.Queue.Members.{those-more, those-room}
 use Rattle.nxt_clumps.proofs.Queue.Kept.{head-within, head-queued, queued-not_waiting, queued-not_asleep, left-queue}
+use Rattle.nxt_clumps.proofs.Sleepers.Changed.{order-awake}
 use Rattle.nxt_clumps.proofs.Mutexes.Entries.{mutexes-set, waiters-at, waiters-push_same, waiters-push_other}
 
 pub taken : (clumps : List Clump) (queue : List ℕ) (turn : ℕ) (owners : List (Option ℕ)) (waiting : List Waiter) (m i h : ℕ)
@@ -48,18 +50,18 @@ waited clumps clumps' queue queue' turn owners waiting waiting' m h owner those 
     ∙ ap (λ (o : Option ℕ). set (mutexes_from 0 owners waiting) m (mutex_with o (waiters m (waiting ++ w ∷ [])))) now.0
     ∙ ap (λ (ws : List ℕ). set (mutexes_from 0 owners waiting) m (Owned owner ws)) all)
 
-pub kept-waits : (clumps : List Clump) (queue : List ℕ) (turn asleep : ℕ) (owners : List (Option ℕ)) (waiting : List Waiter) (r s t h m : ℕ) (k : Clump)
+pub kept-waits : (clumps : List Clump) (queue : List ℕ) (turn : ℕ) (owners : List (Option ℕ)) (waiting : List Waiter) (sleepers : List Sleeper) (r s t u h m : ℕ) (k : Clump)
     (i : ℕ) (queue' : List ℕ) (waiting' : List Waiter) (w : Waiter) (r' s' : ℕ)
-    → AreKept clumps queue turn asleep owners waiting r s t → slice_get queue 0 ≡ Some h → k.activity ≡ Waiting m → (get_or owners m None ≡ None → ⊥)
+    → AreKept clumps queue turn owners waiting sleepers r s t u → slice_get queue 0 ≡ Some h → k.activity ≡ Waiting m → (get_or owners m None ≡ None → ⊥)
     → i ≡ h → queue' ≡ drop 1 queue → waiting' ≡ waiting ++ w ∷ [] → w.mutex ≡ m → w.clump ≡ h → r' ≡ r → s' ≡ s
-    → AreKept (set clumps i k) queue' 0 asleep owners waiting' r' s' t
-kept-waits clumps queue turn asleep owners waiting r s t h m k i queue' waiting' w r' s' kept e is owned same popped pushed for_it it room room' =
+    → AreKept (set clumps i k) queue' 0 owners waiting' sleepers r' s' t u
+kept-waits clumps queue turn owners waiting sleepers r s t u h m k i queue' waiting' w r' s' kept e is owned same popped pushed for_it it room room' =
     let inside = head-within clumps queue h kept.queued e in
     let was = head-queued clumps queue h kept.queued e in
     let awake = queued-not_asleep (activity_at clumps h) was in
     let before = queued-not_waiting (activity_at clumps h) was in
-    let At : ℕ → Type 0 = λ i. AreKept (set clumps i k) queue' 0 asleep owners waiting' r' s' t in
-    let With : List Waiter → Type 0 = λ ws. AreKept (set clumps h k) queue' 0 asleep owners ws r' s' t in
+    let At : ℕ → Type 0 = λ i. AreKept (set clumps i k) queue' 0 owners waiting' sleepers r' s' t u in
+    let With : List Waiter → Type 0 = λ ws. AreKept (set clumps h k) queue' 0 owners ws sleepers r' s' t u in
     let Queue : List ℕ → Type 0 = λ q. AreThose is_queued (set clumps h k) q in
     let Numbers : List ℕ → Type 0 = λ ns. AreThose is_waiting (set clumps h k) ns in
     let numbers : numbers_of waiting ++ h ∷ [] ≡ numbers_of (waiting ++ w ∷ []) =
@@ -68,7 +70,7 @@ kept-waits clumps queue turn asleep owners waiting r s t h m k i queue' waiting'
       few = omega (arith, kept.few, length-set clumps h k);
       queued = subst Queue (sym popped) (left-queue clumps queue h k kept.queued e (ap is_queued is));
       waits = subst Numbers numbers (those-more is_waiting clumps (numbers_of waiting) h k kept.waits inside before (ap is_waiting is));
-      sleepers = omega (arith, kept.sleepers, how_many-set is_asleep clumps h k inside, ap one awake, ap (λ (a : Activity). one (is_asleep a)) is);
+      asleep = kept.asleep ∙ sym (order-awake clumps h k (ap is_asleep is) awake);
       free = λ n none. elim (cases_eq n m) [
         | inl d ↦ absurd (owned (ap (λ (n : ℕ). get_or owners n None) (sym d) ∙ none))
         | inr d ↦ waiters-push_other n waiting w (λ f. d (f ∙ for_it)) ∙ kept.free n none
@@ -76,12 +78,13 @@ kept-waits clumps queue turn asleep owners waiting r s t h m k i queue' waiting'
       short = omega arith;
       queue_room = omega (arith, kept.queue_room, room);
       waiting_room = omega (arith, kept.waiting_room, room');
+      sleepers_room = kept.sleepers_room;
       clump_room = kept.clump_room;
     }))
 
-pub waiting-room : (clumps : List Clump) (queue : List ℕ) (turn asleep : ℕ) (owners : List (Option ℕ)) (waiting : List Waiter) (r s t h : ℕ)
-    → AreKept clumps queue turn asleep owners waiting r s t → slice_get queue 0 ≡ Some h → length waiting < s
-waiting-room clumps queue turn asleep owners waiting r s t h kept e =
+pub waiting-room : (clumps : List Clump) (queue : List ℕ) (turn : ℕ) (owners : List (Option ℕ)) (waiting : List Waiter) (sleepers : List Sleeper) (r s t u h : ℕ)
+    → AreKept clumps queue turn owners waiting sleepers r s t u → slice_get queue 0 ≡ Some h → length waiting < s
+waiting-room clumps queue turn owners waiting sleepers r s t u h kept e =
     let inside = head-within clumps queue h kept.queued e in
     let before = queued-not_waiting (activity_at clumps h) (head-queued clumps queue h kept.queued e) in
     omega (arith, those-room is_waiting clumps (numbers_of waiting) h kept.waits inside before, kept.few, kept.waiting_room, length-map waiting (λ (w : Waiter). w.clump))

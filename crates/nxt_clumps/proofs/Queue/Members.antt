@@ -144,11 +144,6 @@ pub those-room : (test : Activity → Bool) (clumps : List Clump) (numbers : Lis
     → AreThose test clumps numbers → c < length clumps → test (activity_at clumps c) ≡ false → length numbers < length clumps
 those-room test clumps numbers c those h was = omega (arith, those.whole, how_many-less test clumps c h was)
 
-pub how_many-some : (test : Activity → Bool) (clumps : List Clump) (c : ℕ)
-    → c < length clumps → test (activity_at clumps c) ≡ true → 0 < how_many test clumps
-how_many-some test clumps c h is =
-    omega (arith, get_or-le-sum_by (λ (k : Clump). one (test k.activity)) clumps c no_clump h, ap one is)
-
 or_some : (b : Bool) (n : ℕ) → nat_lt 0 (one b + n) ≡ (b || nat_lt 0 n)
 or_some true n = lt-ltb 0 (1 + n) (omega arith)
 or_some false n = ap (nat_lt 0) (zero-add n)

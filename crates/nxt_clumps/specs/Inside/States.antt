@@ -1,7 +1,9 @@
 -- The queue, those who wait and the owners of mutexes, as the program keeps them.
-use Rattle.std.specs.Prelude.{◌≡◌, ℕ, ◌+◌, ◌<◌, ◌≤◌, Bool, true, false, if◌then◌else◌, ◌==◌, List, [], ◌∷◌, length, map, sum_by, Option, Some, None, slice_index_or}
+use Rattle.std.specs.Prelude.{◌≡◌, ℕ, ◌+◌, ◌≤◌, Bool, true, false, if◌then◌else◌, ◌==◌, List, [], ◌∷◌, length, map, sum_by, Option, Some, None, slice_index_or}
 use Rattle.nxt_model.specs.Clumps.{Activity, Queued, Waiting, Clump, no_clump, is_asleep, Mutex, Free, Owned, Clumps}
+use Rattle.nxt_clumps.specs.declared.sleeper.Sleeper.{Sleeper}
 use Rattle.nxt_clumps.specs.declared.waiter.Waiter.{Waiter}
+use Rattle.nxt_clumps.specs.Inside.Sleepers.{pairs_of, in_order}
 
 abbrev pub is_queued : Activity → Bool
 is_queued Queued = true
@@ -69,14 +71,15 @@ clumps_of clumps queue turn owners waiting =
 
 -- ---- the whole
 
--- the fields fit one another, and the queue and those who wait have room for every clump
-pub record AreKept (clumps : List Clump) (queue : List ℕ) (turn asleep : ℕ) (owners : List (Option ℕ)) (waiting : List Waiter) (room room' room'' : ℕ) : Type 0 where
+-- the fields fit one another, and the lists have room for every clump
+pub record AreKept (clumps : List Clump) (queue : List ℕ) (turn : ℕ) (owners : List (Option ℕ)) (waiting : List Waiter) (sleepers : List Sleeper) (room room' room'' room''' : ℕ) : Type 0 where
   pub few : length clumps ≤ 255
   pub queued : AreThose is_queued clumps queue
   pub waits : AreThose is_waiting clumps (numbers_of waiting)
-  pub sleepers : asleep ≡ how_many is_asleep clumps
+  pub asleep : pairs_of sleepers ≡ in_order clumps
   pub free : (m : ℕ) → slice_index_or owners m None ≡ None → waiters m waiting ≡ []
-  pub short : turn < 20
+  pub short : turn ≤ 20
   pub queue_room : 255 ≤ room
   pub waiting_room : 255 ≤ room'
-  pub clump_room : 255 ≤ room''
+  pub sleepers_room : 255 ≤ room''
+  pub clump_room : 255 ≤ room'''

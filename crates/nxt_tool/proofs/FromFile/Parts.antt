@@ -5,7 +5,8 @@ use Rattle.nxt_layout.specs.Layouts.{FileLayout}
 use Rattle.nxt_code.specs.declared.code.Code.{Code as AcceptedCode}
 use Rattle.nxt_layout.specs.Start.{StartsAs, start_footprint}
 use Rattle.nxt_model.specs.Image.{Image}
-use Rattle.nxt_tool.specs.RunsToday.{runs}
+use Rattle.nxt_types.specs.Statements.{statements}
+use Rattle.nxt_machine.specs.RunsToday.{are_built}
 use Rattle.nxt_tool.specs.Accepted.{BreaksNone, IsJudged, IsRun, IsSound, image_of}
 
 shapes_are : (p : Parts) (l : FileLayout) (c : AcceptedCode) (j : IsJudged p l c) → j.layout.shapes ≡ l.shapes
@@ -28,7 +29,7 @@ judged_sound p l c j =
           ap (λ (x : FileLayout). x.footprint) j.layout.layout ∙ ap (λ ss. start_footprint p ss j.layout.vars) (shapes_are p l c j);
     }
 
-pub judged_run : (p : Parts) (l : FileLayout) (c : AcceptedCode) (j : IsJudged p l c) (image : Image) → runs p l.shapes ≡ true → image ≡ image_of p l.shapes j.layout.vars → IsRun p image
+pub judged_run : (p : Parts) (l : FileLayout) (c : AcceptedCode) (j : IsJudged p l c) (image : Image) → are_built l.shapes (statements p.code) ≡ true → image ≡ image_of p l.shapes j.layout.vars → IsRun p image
 judged_run p l c j image built is =
     record {
       shapes = l.shapes;

@@ -12,7 +12,8 @@ use Rattle.nxt_model.specs.Image.{Image}
 use Rattle.nxt_tool.specs.Due.{Answer, answer, Meets, RunOn, answer_to, answer_given, read_status, write_status, refused_answer, sound_answer, OfFile, Run, CheckFile, CheckOf, DueTo, Due, Answers}
 use Rattle.nxt_tool.specs.declared.words.Command.{Command}
 use Rattle.nxt_tool.specs.Words.{command_of}
-use Rattle.nxt_tool.specs.RunsToday.{runs}
+use Rattle.nxt_machine.specs.RunsToday.{are_built}
+use Rattle.nxt_types.specs.Statements.{statements}
 use Rattle.nxt_tool.specs.Accepted.{BreaksNone, IsRun, IsSound, IsSoundFile, IsAcceptedAs, IsRefused, BreaksRule, code_in, image_of}
 use Rattle.nxt_tool.specs.declared.fault.Refusal.{Refusal}
 use Rattle.nxt_tool.specs.declared.fault.Refusal.TheVariants as refusals
@@ -35,8 +36,7 @@ use Rattle.nxt_tool.specs.declared.writing.Fault.TheVariants.{Write, NoMemory as
 use Rattle.nxt_tool.specs.Rows.{given, at_first}
 use Rattle.nxt_tool.proofs.Reports.Texts.{is_report}
 use Rattle.nxt_tool.specs.Statuses.{status_of}
-use Rattle.nxt_tool.specs.Plain.{held}
-use Rattle.nxt_tool.specs.Running.{report, plain_row}
+use Rattle.nxt_tool.specs.Running.{held, report, plain_row}
 use Rattle.nxt_model.specs.Report.{IsReport, setting}
 use Rattle.nxt_model.specs.Program.{start}
 use Rattle.nxt_model.specs.Image.{program_of}
@@ -123,7 +123,7 @@ accepted_run program script image a few accepted on =
 abbrev OnProgram : List ℕ → List ℕ → Type 0
 OnProgram program script = (a : Answer) × OfFile program (λ image. RunOn image script) a
 
-by_test : (program script : List ℕ) (p : Parts) (ss : Members) (b : Bool) → IsFile program p → BreaksNone p ss → runs p ss ≡ b → OnProgram program script
+by_test : (program script : List ℕ) (p : Parts) (ss : Members) (b : Bool) → IsFile program p → BreaksNone p ss → are_built ss (statements p.code) ≡ b → OnProgram program script
 by_test program script p ss false file sound e = (refused_answer refusals.Unbuilt, inl (refusals.Unbuilt, (p, file, (ss, sound, e)), refl))
 by_test program script p ss true file sound e =
     let start = some_start p ss sound.layout sound.shapes in
@@ -136,7 +136,7 @@ by_code : (program script : List ℕ) (p : Parts) (ss : Members) → IsFile prog
 by_code program script p ss file layout shapes (inl found) =
     (refused_answer (refusals.Code found.0), inl (refusals.Code found.0, (p, file, (layout, ss, shapes, found.1)), refl))
 by_code program script p ss file layout shapes (inr code) =
-    by_test program script p ss (runs p ss) file (record { layout = layout; shapes = shapes; code = code }) refl
+    by_test program script p ss (are_built ss (statements p.code)) file (record { layout = layout; shapes = shapes; code = code }) refl
 
 by_layout : (program script : List ℕ) (p : Parts) → IsFile program p → ((f : LayoutFault) × IsRefusal (layout_rules.Broken p) layout_rules.rank f) ⊎ (IsAccepted (layout_rules.Broken p) × (ss : Members) × HasShapes p ss) → OnProgram program script
 by_layout program script p file (inl found) = (refused_answer (refusals.Layout found.0), inl (refusals.Layout found.0, (p, file, found.1), refl))

@@ -12,9 +12,8 @@ use Rattle.nxt_model.specs.Report.{IsReport, Tells, setting, closing}
 use Rattle.nxt_model.proofs.Laws.Reports.{AllPlain, plain_tells}
 use Rattle.nxt_tool.specs.declared.script.Row.{Row}
 use Rattle.nxt_tool.specs.declared.script.Row.TheVariants.{Run, Tick}
-use Rattle.nxt_tool.specs.Plain.{Held, held}
 use Rattle.nxt_tool.specs.Rows.{Given}
-use Rattle.nxt_tool.specs.Running.{stepped_held, after, after_all, text_from, text_of_rows, events_of, plain_row, report}
+use Rattle.nxt_tool.specs.Running.{Held, held, stepped_held, after, after_all, text_from, text_of_rows, events_of, plain_row, report}
 
 text_both : (h : Held) (es fs : List Event) → text_from h (es ++ fs) ≡ text_from h es ++ text_from (after_all h es) fs
 text_both h [] fs = refl

@@ -1,9 +1,9 @@
 -- What is due to a program, by how far it was read.
-use Rattle.std.proofs.Common.{◌≡◌, ℕ, ◌≤◌, ◌∙◌, List, Err, ap, subst, length}
+use Rattle.std.proofs.Common.{◌≡◌, inr, ℕ, ◌≤◌, ◌∙◌, List, Option, Some, None, Err, refl, ap, subst, length}
 use Rattle.nxt_edge.proofs.Laws.{Consumes-longer}
+use Rattle.nxt_machine.specs.Machines.{MachineViews}
 use Rattle.nxt_tool.specs.Accepted.{IsAcceptedAs, IsRefused, HasCause}
-use Rattle.nxt_tool.specs.Plain.{image_in}
-use Rattle.nxt_tool.specs.Due.{ReadsScript, answer_to, refused_answer}
+use Rattle.nxt_tool.specs.Due.{ReadsScript, Accepts, answer_to, refused_answer}
 use Rattle.nxt_tool.specs.declared.fault.AcceptFault.TheVariants.{Refused}
 use Rattle.nxt_tool.proofs.Reports.Statuses.{long_list, read_is, run_on, accepted_run, refused_run, unread_run, no_memory_run}
 use Rattle.nxt_tool.proofs.entry.run.Goals as goal
@@ -14,9 +14,37 @@ returns-in-Err-clause-told g c = λ b s bytes program script.
     let taken = c.in-Err.ensures.too_large (ap (λ (x : _). Err x) large) in
     long_list _ b 262144 program (Consumes-longer _ _ 262144 taken.0 taken.1 taken.2)))
 
+-- the script is read behind a program that is accepted
+reads_script : (b bytes : List ℕ) (m : MachineViews) → bytes ≡ b → length bytes ≤ 262144 → IsAcceptedAs bytes m.image → ReadsScript b
+reads_script b bytes m same within accepted =
+    record {
+      within = subst (λ (l : List ℕ). length l ≤ 262144) same within;
+      image = m.image;
+      accepted = subst (λ (l : List ℕ). IsAcceptedAs l m.image) same accepted;
+    }
+
+if_told : (o : Option (List ℕ)) → ((b : List ℕ) → o ≡ Some b → ReadsScript b) → Accepts o
+if_told None reads = tt
+if_told (Some b) reads = reads b refl
+
+pub returns-in-Ok-accept-clause-read : goal.returns-in-Ok-accept-clause-read
+returns-in-Ok-accept-clause-read g c =
+    λ failed. inr (
+      if_told _ (λ b told.
+          reads_script b c.in-Ok.bytes c.in-Ok-accept.machine (read_is _ b _ told c.in-Ok.ensures.all) c.in-Ok.ensures.within
+          (subst (λ (l : List ℕ). IsAcceptedAs l c.in-Ok-accept.machine.image) c.as_slice.ensures c.in-Ok-accept.ensures.accepted)),
+      c.run_program.ensures.read failed,
+    )
+
+pub returns-in-Ok-accept-clause-unread : goal.returns-in-Ok-accept-clause-unread
+returns-in-Ok-accept-clause-unread g c =
+    λ refused. absurd (refused (if_told _ (λ b told.
+    reads_script b c.in-Ok.bytes c.in-Ok-accept.machine (read_is _ b _ told c.in-Ok.ensures.all) c.in-Ok.ensures.within
+    (subst (λ (l : List ℕ). IsAcceptedAs l c.in-Ok-accept.machine.image) c.as_slice.ensures c.in-Ok-accept.ensures.accepted))))
+
 pub returns-in-Ok-accept-clause-told : goal.returns-in-Ok-accept-clause-told
 returns-in-Ok-accept-clause-told g c = λ b s bytes program script.
-    let image = image_in c.in-Ok-accept.program in
+    let image = c.in-Ok-accept.machine.image in
     let same : c.in-Ok.bytes ≡ b = read_is _ b _ program c.in-Ok.ensures.all in
     let few : length b ≤ 262144 = subst (λ (l : List ℕ). length l ≤ 262144) same c.in-Ok.ensures.within in
     let accepted : IsAcceptedAs b image = subst (λ (l : List ℕ). IsAcceptedAs l image) (c.as_slice.ensures ∙ same) c.in-Ok-accept.ensures.accepted in

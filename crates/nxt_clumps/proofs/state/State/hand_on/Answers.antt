@@ -32,7 +32,7 @@ pub invariant_of-self : goal.invariant_of-self
 invariant_of-self c =
     let s = c.self.inside in
     let none = no-waiter c.args.m s.waiting.items (ap (position (λ (w : Waiter). w.mutex == c.args.m)) (sym c.as_slice.ensures.value) ∙ sym (c.in_default.ensures {u = tt})) in
-    kept-freed s.clumps.items s.queue.items s.turn s.asleep s.owners.items s.waiting.items _ _ _ c.args.m c.from.result c.self.invariant c.from.ensures none
+    kept-freed s.clumps.items s.queue.items s.turn s.owners.items s.waiting.items s.sleepers.items _ _ _ _ c.args.m c.from.result c.self.invariant c.from.ensures none
 
 pub returns-in_default-clause-state : goal.returns-in_default-clause-state
 returns-in_default-clause-state c =
@@ -75,7 +75,7 @@ invariant_of-self-2 c =
     let w = c.remove-next.result in
     let first = first-waiter m s.waiting.items c.in-Some.at w (ap (position (λ (w : Waiter). w.mutex == m)) (sym c.as_slice.ensures.value) ∙ sym (c.in-Some.ensures {u = tt})) in
     let waiter = is_waiter s.clumps.items s.waiting.items c.in-Some.at w c.self.invariant.waits first.inside c.remove-next.ensures.value in
-    kept-handed s.clumps.items s.queue.items s.turn s.asleep s.owners.items s.waiting.items _ _ _ m c.in-Some.at w.clump c.set_doing.new.self c.set_doing.new.self w _ _ _ _ _ _
+    kept-handed s.clumps.items s.queue.items s.turn s.owners.items s.waiting.items s.sleepers.items _ _ _ _ m c.in-Some.at w.clump c.set_doing.new.self c.set_doing.new.self w _ _ _ _ _ _
     c.self.invariant (entry s.owners.items s.waiting.items c.args.self.now m (ap (λ (v : Clumps). v.mutexes) c.self.view_is) c.requires.entry) first waiter
     (ap (λ (k : Clump). k.activity) c.set_doing.ensures) c.from-3.ensures c.from-2.ensures c.push_back_reserved.ensures.items c.remove-next.ensures.items
     c.push_back_reserved.ensures.capacity c.remove-next.ensures.capacity

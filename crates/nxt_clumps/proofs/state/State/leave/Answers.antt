@@ -19,7 +19,7 @@ invariant_of-self c =
     let k = c.set_doing.new.self in
     let Plain : Activity → Type 0 = λ a. IsPlain a in
     let plain = subst Plain (sym (ap (λ (k : Clump). k.activity) c.set_doing.ensures)) c.requires.plain in
-    kept-left s.clumps.items s.queue.items s.turn s.asleep s.owners.items s.waiting.items _ _ _ c.args.h k _ _ _ c.self.invariant
+    kept-left s.clumps.items s.queue.items s.turn s.owners.items s.waiting.items s.sleepers.items _ _ _ _ c.args.h k _ _ _ c.self.invariant
     (subst First (sym c.self.view_is) c.requires.head) plain c.from.ensures c.pop_front.ensures.rest c.pop_front.ensures.capacity
 
 pub returns-clause-inside : goal.returns-clause-inside

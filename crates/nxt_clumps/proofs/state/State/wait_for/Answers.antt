@@ -21,7 +21,7 @@ push_reserved-requires c =
     let s = c.self.inside in
     omega (
       arith,
-      waiting-room s.clumps.items s.queue.items s.turn s.asleep s.owners.items s.waiting.items _ _ _ c.args.h c.self.invariant
+      waiting-room s.clumps.items s.queue.items s.turn s.owners.items s.waiting.items s.sleepers.items _ _ _ _ c.args.h c.self.invariant
           (subst First (sym c.self.view_is) c.requires.head),
     )
 
@@ -39,7 +39,7 @@ invariant_of-self c =
     omega (arith, length-mutexes_from 0 s.owners.items s.waiting.items, ap (λ (v : Clumps). length v.mutexes) c.self.view_is) in
     let owned : get_or s.owners.items m None ≡ None → ⊥ = λ e. some_owner (owner_in (mutex c.args.self.now m)) c.requires.owned
     (sym (sym (owner-at s.owners.items s.waiting.items m inside) ∙ ap (λ (v : Clumps). owner_in (mutex v m)) c.self.view_is) ∙ e) in
-    kept-waits s.clumps.items s.queue.items s.turn s.asleep s.owners.items s.waiting.items _ _ _ c.args.h m c.set_doing.new.self _ _ _ (record { mutex = m; clump = c.args.h }) _ _
+    kept-waits s.clumps.items s.queue.items s.turn s.owners.items s.waiting.items s.sleepers.items _ _ _ _ c.args.h m c.set_doing.new.self _ _ _ (record { mutex = m; clump = c.args.h }) _ _
     c.self.invariant (subst First (sym c.self.view_is) c.requires.head) (ap (λ (k : Clump). k.activity) c.set_doing.ensures) owned
     c.from.ensures c.pop_front.ensures.rest c.push_reserved.ensures.items refl refl c.pop_front.ensures.capacity c.push_reserved.ensures.capacity
 

@@ -1,7 +1,7 @@
 -- What is left to wake gives what was to be woken. Each round one sleeper less is left.
 use Rattle.std.proofs.Common.{◌≡◌, length}
-use Rattle.nxt_model.specs.Clumps.{wake, is_asleep}
-use Rattle.nxt_clumps.specs.Inside.States.{how_many}
+use Rattle.nxt_model.specs.Clumps.{wake}
+use Rattle.nxt_clumps.specs.Inside.Sleepers.{in_order}
 use Rattle.nxt_clumps.proofs.state.State.wake.Given as goal
 
 abbrev pub invariant-loop-c : goal.invariant-loop-c
@@ -11,4 +11,4 @@ invariant-loop-c l = record {
 }
 
 abbrev pub decreases-loop-c : goal.decreases-loop-c
-decreases-loop-c l = how_many is_asleep l.self.clumps
+decreases-loop-c l = length (in_order l.self.clumps)

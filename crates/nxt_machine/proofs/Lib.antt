@@ -1,0 +1,8 @@
+-- One bytecode of the plain machine, and several.
+mod Steps
+-- What statements mean for values, devices, lines and the place behind them.
+mod Meanings
+-- What stays of a program while its statements run.
+mod Kept
+-- Programs and machines that are made.
+mod Making

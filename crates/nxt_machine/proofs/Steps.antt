@@ -1,0 +1,12 @@
+-- One bytecode of the plain machine, and several.
+
+-- Several events are some and then the others.
+pub mod Runs
+-- What the first of the queue runs.
+pub mod Fetched
+-- What stands in a list that is stored in.
+pub mod Stored
+-- The clumps of a turn.
+pub mod Turns
+-- Statements on numbers, one behind another.
+pub mod Numbers

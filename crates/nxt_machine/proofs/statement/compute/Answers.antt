@@ -1,0 +1,93 @@
+-- A statement that computes does what the plain machine does, and the program is the same but for values and rows.
+use Rattle.std.proofs.Common.{◌≡◌, ◌<◌, ◌^◌, Bool, true, false, ℤ, w32, w64, rules, sym, ap, ◌∙◌, subst, Err}
+use Rattle.std.proofs.Math.Facts.{to_z-of_z}
+use Rattle.std.specs.Int.Signed.{mag}
+use Rattle.nxt_types.specs.Statements.{statement_of, statements, statement_number, landing, offset_of}
+use Rattle.nxt_types.specs.declared.instr.Instr.{Instr}
+use Rattle.nxt_model.specs.Devices.{at_start}
+use Rattle.nxt_ops.specs.Ops.{statement_in, next_of}
+use Rattle.nxt_ops.specs.declared.run.Next.TheVariants.{Jump}
+use Rattle.nxt_machine.specs.Inside.Statements.{Told, devices_of, clock_at, IsPassed}
+use Rattle.nxt_machine.proofs.Meanings.Ended.{Tells, fell, jumped, refused}
+use Rattle.nxt_machine.proofs.Kept.{statement_there, still_program, same_image}
+use Rattle.nxt_machine.proofs.statement.compute.Goals as goal
+
+pub run_op-requires : goal.run_op-requires
+run_op-requires c =
+    let p = c.args.program.now in
+    record {
+      runs = c.requires.computes;
+      entries = c.requires.program.entries;
+      shapes = c.requires.program.shapes;
+      sound = c.is_sound.ensures;
+      fit = c.requires.program.fit c.args.place (c.args.placed.word, statement_in c.args.placed.instr) (statement_there p c.requires.program c.args.place c.args.placed c.requires.at c.requires.computes);
+    }
+
+-- a jump tells the offset of its first operand
+offset_is : (i : Instr) (b : Bool) (z : ℤ) → Jump z ≡ next_of i b → z ≡ offset_of i.a
+offset_is i true z e = cc
+offset_is i false z e = let f : ⊥ = cc in absurd f
+
+pub returns-in-Ok-Fall-clause-did : goal.returns-in-Ok-Fall-clause-did
+returns-in-Ok-Fall-clause-did c motors lines clock =
+    let p = c.args.program.now in
+    fell p.space c.run_op.new.space p.code.words motors lines clock c.args.place c.args.placed.word c.args.placed.instr c.requires.computes
+    (let g = c.in-Ok-Fall.ensures (devices_of motors) (clock_at clock) in (g.0, g.1, sym c.in-Ok-Fall.field-0-is ∙ g.2))
+
+pub returns-in-Ok-Jump-clause-did : goal.returns-in-Ok-Jump-clause-did
+returns-in-Ok-Jump-clause-did c motors lines clock =
+    let p = c.args.program.now in
+    let offset = c.in-Ok-Jump.offset in
+    let told = c.in-Ok-Jump.ensures (devices_of motors) (clock_at clock) in
+    let next = sym c.in-Ok-Jump.field-0-is ∙ told.2 in
+    let fits : mag offset < 2 ^ 31 = search rules in
+    let word =
+    to_z-of_z {w = w64} {z = c.landing-word.result} (record { sfits = c.landing-word.type_inv })
+    ∙ c.landing-word.ensures
+    ∙ ap (landing c.args.placed.word) (to_z-of_z {w = w32} {z = offset} (record { sfits = fits }) ∙ offset_is c.args.placed.instr _ offset next)
+    in
+    jumped p.space c.run_op.new.space p.code.words motors lines clock c.args.place c.args.placed.word c.args.placed.instr c.requires.computes
+    offset _ (told.0, told.1, next)
+    (c.statement_number.ensures p.code.words c.requires.program.code ∙ ap (statement_number (statements p.code.words)) word)
+
+pub returns-in-Err-PoolPassed-clause-did : goal.returns-in-Err-PoolPassed-clause-did
+returns-in-Err-PoolPassed-clause-did c motors lines clock =
+    let p = c.args.program.now in
+    let old : Told = record { vars = p.space.vars; motors = motors; lines = lines } in
+    let new : Told = record { vars = c.run_op.new.space.vars; motors = motors; lines = lines } in
+    subst
+    (IsPassed clock (statement_of c.args.placed.instr p.code.words) old new)
+    (sym c.in-Err-PoolPassed.bytes-is)
+    (refused p.space c.run_op.new.space p.code.words motors lines clock c.args.place c.args.placed.word c.args.placed.instr c.requires.computes c.in-Err-PoolPassed.bytes c.is_sound.ensures
+    (subst
+    (λ e. Tells p.space c.run_op.new.space p.code.words motors lines clock c.args.place c.args.placed.word c.args.placed.instr c.requires.computes (Err e))
+    c.in-Err-PoolPassed.field-0-is
+    (c.in-Err-PoolPassed.ensures (devices_of motors) (clock_at clock))))
+
+pub returns-in-Ok-Fall-clause-program : goal.returns-in-Ok-Fall-clause-program
+returns-in-Ok-Fall-clause-program c =
+    still_program _ _ c.args.program.now c.run_op.new.space c.run_op.result (c.run_op.ensures at_start (clock_at 0)) c.requires.program
+
+pub returns-in-Ok-Fall-clause-image : goal.returns-in-Ok-Fall-clause-image
+returns-in-Ok-Fall-clause-image c = same_image _ _ c.args.program.now c.run_op.new.space c.run_op.result (c.run_op.ensures at_start (clock_at 0))
+
+pub returns-in-Ok-Jump-clause-program : goal.returns-in-Ok-Jump-clause-program
+returns-in-Ok-Jump-clause-program c =
+    still_program _ _ c.args.program.now c.run_op.new.space c.run_op.result (c.run_op.ensures at_start (clock_at 0)) c.requires.program
+
+pub returns-in-Ok-Jump-clause-image : goal.returns-in-Ok-Jump-clause-image
+returns-in-Ok-Jump-clause-image c = same_image _ _ c.args.program.now c.run_op.new.space c.run_op.result (c.run_op.ensures at_start (clock_at 0))
+
+pub returns-in-Err-PoolPassed-clause-program : goal.returns-in-Err-PoolPassed-clause-program
+returns-in-Err-PoolPassed-clause-program c =
+    still_program _ _ c.args.program.now c.run_op.new.space c.run_op.result (c.run_op.ensures at_start (clock_at 0)) c.requires.program
+
+pub returns-in-Err-PoolPassed-clause-image : goal.returns-in-Err-PoolPassed-clause-image
+returns-in-Err-PoolPassed-clause-image c = same_image _ _ c.args.program.now c.run_op.new.space c.run_op.result (c.run_op.ensures at_start (clock_at 0))
+
+pub returns-in-Err-NoMemory-clause-program : goal.returns-in-Err-NoMemory-clause-program
+returns-in-Err-NoMemory-clause-program c =
+    still_program _ _ c.args.program.now c.run_op.new.space c.run_op.result (c.run_op.ensures at_start (clock_at 0)) c.requires.program
+
+pub returns-in-Err-NoMemory-clause-image : goal.returns-in-Err-NoMemory-clause-image
+returns-in-Err-NoMemory-clause-image c = same_image _ _ c.args.program.now c.run_op.new.space c.run_op.result (c.run_op.ensures at_start (clock_at 0))

@@ -1,0 +1,4 @@
+pub mod RunsToday
+pub mod Numbers
+pub mod Machines
+pub mod Inside

@@ -1,0 +1,164 @@
+// What a statement does to clumps.
+
+ghost use Rattle.std.specs.Prelude.{◌≡◌, ◌<◌, ◌≤◌, ◌^◌, ℕ, slice_get, Some, None, Result, OnOk, IsSome};
+ghost use Rattle.nxt_types.specs.Statements.{statement_of};
+ghost use Rattle.nxt_model.specs.Clumps.{wait};
+ghost use Rattle.nxt_types.specs.declared.instr.Op.TheVariants as op;
+ghost use Rattle.nxt_clumps.specs.Answers.{stop_of as stop_for, stop_in as stop_told};
+ghost use Rattle.nxt_clumps.specs.Clumps.{head};
+ghost use Rattle.nxt_machine.specs.Inside.Programs.{IsProgram, AreClumpsOf, image_in};
+ghost use Rattle.nxt_machine.specs.Inside.Statements.{IsRuled, GoesOn, end_of as end_for};
+
+use crate::naming::{number, stops};
+use crate::program::Program;
+use crate::statement::Did;
+use nxt_clumps::{ClumpFault, Clumps};
+use nxt_code::StatementAt;
+use nxt_model::line::Stop;
+use nxt_types::instr::{Instr, Op};
+use nxt_types::numbers::wrap;
+
+// Does to clumps what a statement of the clump that runs says, and gives the reason for which the program stops there, if it
+// does.
+fn rule(program: &mut Program, clumps: &mut Clumps, clock: u64, h: u8, i: &Instr) -> Option<Stop>
+    requires program { IsProgram program.old }
+    requires clumps { AreClumpsOf program.old clumps.old }
+    requires head { slice_get clumps.old.state.queue 0 ≡ Some h }
+    requires clock { clock ≤ 2 ^ 62 }
+    requires at { (k word : ℕ) × slice_get program.old.code.decoded.placed.items k ≡ Some (record { word = word; instr = i.now }) }
+    ensures ruled { IsRuled clock h (statement_of i.now program.old.code.words) program.old.space.vars program.new.space.vars clumps.old clumps.new result }
+    ensures program { IsProgram program.new }
+    ensures image { image_in program.new ≡ image_in program.old }
+    ensures code { program.new.code ≡ program.old.code }
+{
+    clumps.is_sound();
+    program.space.is_sound();
+    match i.op {
+        Op::Stop => {
+            if stops(&program.space, i.a) {
+                Some(Stop::Stopped)
+            } else {
+                None
+            }
+        }
+        Op::Finclump => stop_of(clumps.finish(i.a.cast_signed(), i.b.cast_signed())),
+        Op::Finclumpimmed => stop_of(clumps.schedule(i.a as u8)),
+        Op::Acquire => {
+            clumps.acquire(i.a);
+            None
+        }
+        Op::Release => stop_of(clumps.release(i.a)),
+        Op::Subcall => call(program, clumps, h, i),
+        Op::Subret => stop_of(clumps.ret(wrap(number(&program.space, i.a)))),
+        Op::Wait => {
+            wait(clumps, clock, wrap(number(&program.space, i.a)));
+            None
+        }
+        _ => None,
+    }
+}
+
+// The clump that runs calls another one, which is told its number in a variable.
+fn call(program: &mut Program, clumps: &mut Clumps, h: u8, i: &Instr) -> Option<Stop>
+    requires program { IsProgram program.old }
+    requires clumps { AreClumpsOf program.old clumps.old }
+    requires head { slice_get clumps.old.state.queue 0 ≡ Some h }
+    requires call { i.now.op ≡ op.Subcall }
+    requires at { (k word : ℕ) × slice_get program.old.code.decoded.placed.items k ≡ Some (record { word = word; instr = i.now }) }
+    ensures ruled { (clock : ℕ) → IsRuled clock h (statement_of i.now program.old.code.words) program.old.space.vars program.new.space.vars clumps.old clumps.new result }
+    ensures program { IsProgram program.new }
+    ensures image { image_in program.new ≡ image_in program.old }
+    ensures code { program.new.code ≡ program.old.code }
+{
+    clumps.is_sound();
+    if let Err(fault) = clumps.call(i.a as u8) {
+        return Some(stop_in(fault));
+    }
+    program.space.set(i.b, i64::from(h));
+    None
+}
+
+// The clump that runs sleeps so many ms, or goes to the queue's end.
+fn wait(clumps: &mut Clumps, clock: u64, ms: u32)
+    requires head { IsSome (slice_get clumps.old.state.queue 0) }
+    requires clock { clock ≤ 2 ^ 62 }
+    ensures { clumps.new ≡ record clumps.old { state = (wait ms clock (head clumps.old.state) clumps.old.state).0 } }
+{
+    if ms == 0 {
+        clumps.rotate();
+    } else {
+        clumps.sleep(clock + u64::from(ms));
+    }
+}
+
+// The reason for which the program stops.
+fn stop_in(fault: ClumpFault) -> Stop
+    ensures { result ≡ stop_for fault }
+{
+    match fault {
+        ClumpFault::Active(c) => Stop::Active(c),
+        ClumpFault::NotOwner(m) => Stop::NotOwner(m),
+        ClumpFault::NoCaller(n) => Stop::NoCaller(n),
+    }
+}
+
+// The reason for which the program stops, if it does.
+fn stop_of(ruled: Result<(), ClumpFault>) -> Option<Stop>
+    ensures { result ≡ stop_told ruled }
+{
+    match ruled {
+        Ok(()) => None,
+        Err(fault) => Some(stop_in(fault)),
+    }
+}
+
+/// The clump that runs goes on behind its statement, which did this; its rule follows, and the bytecode ends. Gives the reason
+/// for which the program stops there, if it does.
+pub(crate) fn go_on(
+    program: &mut Program,
+    clumps: &mut Clumps,
+    clock: u64,
+    h: u8,
+    place: u32,
+    placed: StatementAt,
+    did: Did,
+) -> Option<Stop>
+    requires program { IsProgram program.old }
+    requires clumps { AreClumpsOf program.old clumps.old }
+    requires head { slice_get clumps.old.state.queue 0 ≡ Some h }
+    requires turn { clumps.old.state.turn < 20 }
+    requires clock { clock ≤ 2 ^ 62 }
+    requires at { slice_get program.old.code.decoded.placed.items place ≡ Some placed }
+    ensures goes { GoesOn clock h place (statement_of placed.instr program.old.code.words) did program.old.space.vars program.new.space.vars clumps.old clumps.new result }
+    ensures program { IsProgram program.new }
+    ensures image { image_in program.new ≡ image_in program.old }
+    ensures clumps { AreClumpsOf program.new clumps.new }
+    ensures turn { clumps.new.state.turn < 20 }
+{
+    match did {
+        Did::Next(next) => {
+            clumps.advance(next, 1);
+            let why = rule(program, clumps, clock, h, &placed.instr);
+            clumps.end_bytecode();
+            why
+        }
+        Did::Passed(bytes) => {
+            clumps.advance(place + 1, 1);
+            clumps.end_bytecode();
+            Some(Stop::Memory(bytes))
+        }
+    }
+}
+
+/// The reason for which a program ends whose queue is empty and where nobody sleeps.
+pub(crate) fn end_of(clumps: &Clumps) -> Option<Stop>
+    ensures { result ≡ end_for clumps.now.state }
+{
+    if clumps.head().is_some() || clumps.sleeping() {
+        None
+    } else if clumps.blocked() {
+        Some(Stop::Stuck)
+    } else {
+        Some(Stop::Finished)
+    }
+}
