@@ -23,6 +23,7 @@ pub enum One {
 
 impl Two {
     /// The word for two numbers, of which one is of a signed kind or none.
+    #[inline(always)]
     pub fn word(self, signed: bool, x: i64, y: i64) -> u32
         ensures { result ≡ word_of_two self signed x y }
     {
@@ -35,6 +36,7 @@ impl Two {
 
 impl One {
     /// The word for a number, which is of a signed kind or not.
+    #[inline(always)]
     pub fn word(self, signed: bool, x: i64) -> u32
         ensures { result ≡ word_of_one self signed x }
     {
