@@ -1,72 +1,87 @@
-// The texts of lines.
+// The texts of lines. A private function adds to the end of a text. After an `Err` the text begins with what it held
+// before, and a part of the line may stand behind that.
 
-ghost use Rattle.std.specs.Prelude.{◌≡◌, ◌++◌, ◌∷◌, [], map, decimal, OnOk, OnErr, IfOk};
+ghost use Rattle.std.specs.Prelude.{◌≡◌, ◌++◌, ◌∷◌, [], map, length, take, decimal, OnOk, OnErr, IfOk};
 ghost use Rattle.nxt_model.specs.LineText.{line_text as text_of, line_of, fields_then, hex_text};
 ghost use Rattle.nxt_model.specs.Means.Text.{number_text};
 
 use crate::line::{Line, Stop};
+use itoa::Buffer;
 use nxt_types::{Bytes, NoMemory};
 use std::alloc::Global;
 
 // Adds a comma and a number.
-fn push_number(text: &mut Bytes, number: i64) -> Result<(), NoMemory>
-    ensures { OnOk result (text.new ≡ text.old ++ 44 ∷ number_text number) }
+fn push_number(number: i64, into: &mut Bytes) -> Result<(), NoMemory>
+    ensures ok { OnOk result (into.new ≡ into.old ++ 44 ∷ number_text number) }
+    ensures err { OnErr result (take (length into.old) into.new ≡ into.old) }
 {
-    let digits = number.to_string(*text.as_vec().allocator())?;
-    text.append(b",")?;
-    text.append(digits.as_bytes())
+    let mut buffer = Buffer::new();
+    into.push(b',')?;
+    into.append(buffer.format(number).as_bytes())
 }
 
-// A name, numbers behind it, and what stands behind these.
-fn numbers_then(alloc: Global, name: &[u8], numbers: &[i64], last: &[u8]) -> Result<Bytes, NoMemory>
-    ensures { IfOk result (λ text. text ≡ name.now ++ fields_then (map number_text numbers.now) last.now) }
+// Adds a name, numbers behind it, and what stands behind these.
+fn numbers_then(name: &[u8], numbers: &[i64], last: &[u8], into: &mut Bytes) -> Result<(), NoMemory>
+    ensures ok { OnOk result (into.new ≡ into.old ++ (name.now ++ fields_then (map number_text numbers.now) last.now)) }
+    ensures err { OnErr result (take (length into.old) into.new ≡ into.old) }
 {
-    let mut text = Bytes::new(alloc);
-    text.append(name)?;
+    into.append(name)?;
     for number in numbers {
-        push_number(&mut text, *number)?;
+        push_number(*number, into)?;
     }
-    text.append(last)?;
-    Ok(text)
+    into.append(last)
+}
+
+// Adds a line of numbers behind a name.
+fn push_number_line(name: &[u8], numbers: &[i64], into: &mut Bytes) -> Result<(), NoMemory>
+    ensures ok { OnOk result (into.new ≡ into.old ++ line_of name.now (map number_text numbers.now)) }
+    ensures err { OnErr result (take (length into.old) into.new ≡ into.old) }
+{
+    numbers_then(name, numbers, b"\n", into)
 }
 
 /// A line of numbers behind a name.
 pub fn number_line(alloc: Global, name: &[u8], numbers: &[i64]) -> Result<Bytes, NoMemory>
     ensures { IfOk result (λ text. text ≡ line_of name.now (map number_text numbers.now)) }
 {
-    numbers_then(alloc, name, numbers, b"\n")
+    let mut text = Bytes::new(alloc);
+    push_number_line(name, numbers, &mut text)?;
+    Ok(text)
 }
 
-// A comma, bytes in hexadecimal, and a line feed.
-fn hex_field(alloc: Global, bytes: &[u8]) -> Result<Bytes, NoMemory>
-    ensures { IfOk result (λ text. text ≡ 44 ∷ hex_text bytes.now ++ 10 ∷ []) }
+// Adds a line of numbers and, last, bytes in hexadecimal behind a name.
+#[tactic(auto, using(crate::proofs::Fields::last_field))]
+fn push_bytes_line(
+    name: &[u8],
+    numbers: &[i64],
+    bytes: &[u8],
+    into: &mut Bytes,
+) -> Result<(), NoMemory>
+    ensures ok { OnOk result (into.new ≡ into.old ++ (name.now ++ fields_then (map number_text numbers.now) (44 ∷ hex_text bytes.now ++ 10 ∷ []))) }
+    ensures err { OnErr result (take (length into.old) into.new ≡ into.old) }
 {
+    let alloc = *into.as_vec().allocator();
     let digits = hex::encode(alloc, bytes)?;
-    let mut text = Bytes::new(alloc);
-    text.append(b",")?;
-    text.append(digits.as_bytes())?;
-    text.append(b"\n")?;
-    Ok(text)
+    numbers_then(name, numbers, b",", into)?;
+    into.append(digits.as_bytes())?;
+    into.push(b'\n')
 }
 
-// A line of numbers and, last, bytes behind a name.
-fn bytes_line(alloc: Global, name: &[u8], numbers: &[i64], bytes: &[u8]) -> Result<Bytes, NoMemory>
-    ensures { IfOk result (λ text. text ≡ name.now ++ fields_then (map number_text numbers.now) (44 ∷ hex_text bytes.now ++ 10 ∷ [])) }
+// Adds a line of numbers and, last, a count behind a name.
+#[tactic(auto, using(crate::proofs::Fields::last_field))]
+fn push_count_line(
+    name: &[u8],
+    numbers: &[i64],
+    count: u64,
+    into: &mut Bytes,
+) -> Result<(), NoMemory>
+    ensures ok { OnOk result (into.new ≡ into.old ++ (name.now ++ fields_then (map number_text numbers.now) (44 ∷ decimal count ++ 10 ∷ []))) }
+    ensures err { OnErr result (take (length into.old) into.new ≡ into.old) }
 {
-    let last = hex_field(alloc, bytes)?;
-    numbers_then(alloc, name, numbers, last.as_slice())
-}
-
-// A comma, a count, and a line feed.
-fn count_field(alloc: Global, count: u64) -> Result<Bytes, NoMemory>
-    ensures { IfOk result (λ text. text ≡ 44 ∷ decimal count ++ 10 ∷ []) }
-{
-    let digits = count.to_string(alloc)?;
-    let mut text = Bytes::new(alloc);
-    text.append(b",")?;
-    text.append(digits.as_bytes())?;
-    text.append(b"\n")?;
-    Ok(text)
+    let mut buffer = Buffer::new();
+    numbers_then(name, numbers, b",", into)?;
+    into.append(buffer.format(count).as_bytes())?;
+    into.push(b'\n')
 }
 
 /// A line of numbers and, last, a count behind a name.
@@ -78,33 +93,28 @@ pub fn count_line(
 ) -> Result<Bytes, NoMemory>
     ensures { IfOk result (λ text. text ≡ name.now ++ fields_then (map number_text numbers.now) (44 ∷ decimal count ++ 10 ∷ [])) }
 {
-    let last = count_field(alloc, count)?;
-    numbers_then(alloc, name, numbers, last.as_slice())
+    let mut text = Bytes::new(alloc);
+    push_count_line(name, numbers, count, &mut text)?;
+    Ok(text)
 }
 
-fn whole(alloc: Global, text: &[u8]) -> Result<Bytes, NoMemory>
-    ensures { IfOk result (λ bytes. bytes ≡ text.now) }
-{
-    Ok(Bytes::from_vec(text.to_vec(alloc)?))
-}
-
-fn stop_text(alloc: Global, why: Stop) -> Result<Bytes, NoMemory>
-    ensures { IfOk result (λ text. text ≡ text_of (Line.Stop why)) }
+fn push_stop(why: Stop, into: &mut Bytes) -> Result<(), NoMemory>
+    ensures ok { OnOk result (into.new ≡ into.old ++ text_of (Line.Stop why)) }
+    ensures err { OnErr result (take (length into.old) into.new ≡ into.old) }
 {
     match why {
-        Stop::Finished => whole(alloc, b"stop,finished\n"),
-        Stop::Stopped => whole(alloc, b"stop,stopped\n"),
-        Stop::Memory(footprint) => count_line(alloc, b"stop,memory", &[], footprint),
-        Stop::Active(clump) => number_line(alloc, b"stop,active", &[i64::from(clump)]),
-        Stop::NotOwner(mutex) => number_line(alloc, b"stop,not_owner", &[i64::from(mutex)]),
-        Stop::NoCaller(number) => number_line(alloc, b"stop,no_caller", &[i64::from(number)]),
-        Stop::Stuck => whole(alloc, b"stop,stuck\n"),
-        Stop::Telegram => whole(alloc, b"stop,telegram\n"),
+        Stop::Finished => into.append(b"stop,finished\n"),
+        Stop::Stopped => into.append(b"stop,stopped\n"),
+        Stop::Memory(footprint) => push_count_line(b"stop,memory", &[], footprint, into),
+        Stop::Active(clump) => push_number_line(b"stop,active", &[i64::from(clump)], into),
+        Stop::NotOwner(mutex) => push_number_line(b"stop,not_owner", &[i64::from(mutex)], into),
+        Stop::NoCaller(number) => push_number_line(b"stop,no_caller", &[i64::from(number)], into),
+        Stop::Stuck => into.append(b"stop,stuck\n"),
+        Stop::Telegram => into.append(b"stop,telegram\n"),
     }
 }
 
-fn motor_text(
-    alloc: Global,
+fn push_motor(
     port: u8,
     mode: u8,
     power: i8,
@@ -112,8 +122,10 @@ fn motor_text(
     ratio: i8,
     regulation: u8,
     limit: u32,
-) -> Result<Bytes, NoMemory>
-    ensures { IfOk result (λ text. text ≡ text_of (Line.Motor port mode power state ratio regulation limit)) }
+    into: &mut Bytes,
+) -> Result<(), NoMemory>
+    ensures ok { OnOk result (into.new ≡ into.old ++ text_of (Line.Motor port mode power state ratio regulation limit)) }
+    ensures err { OnErr result (take (length into.old) into.new ≡ into.old) }
 {
     let port = i64::from(port);
     let mode = i64::from(mode);
@@ -122,51 +134,53 @@ fn motor_text(
     let ratio = i64::from(ratio);
     let regulation = i64::from(regulation);
     let limit = i64::from(limit);
-    number_line(
-        alloc,
+    push_number_line(
         b"motor",
         &[port, mode, power, state, ratio, regulation, limit],
+        into,
     )
 }
 
-fn tone_text(
-    alloc: Global,
+fn push_tone(
     frequency: u32,
     duration: u32,
     repeat: u32,
     level: u32,
-) -> Result<Bytes, NoMemory>
-    ensures { IfOk result (λ text. text ≡ text_of (Line.Tone frequency duration repeat level)) }
+    into: &mut Bytes,
+) -> Result<(), NoMemory>
+    ensures ok { OnOk result (into.new ≡ into.old ++ text_of (Line.Tone frequency duration repeat level)) }
+    ensures err { OnErr result (take (length into.old) into.new ≡ into.old) }
 {
     let frequency = i64::from(frequency);
     let duration = i64::from(duration);
     let repeat = i64::from(repeat);
     let level = i64::from(level);
-    number_line(alloc, b"tone", &[frequency, duration, repeat, level])
+    push_number_line(b"tone", &[frequency, duration, repeat, level], into)
 }
 
-fn dump_text(
-    alloc: Global,
+fn push_dump(
     table: u32,
     rows: u16,
     unsettled: u16,
     end: u32,
-) -> Result<Bytes, NoMemory>
-    ensures { IfOk result (λ text. text ≡ text_of (Line.Dump table rows unsettled end)) }
+    into: &mut Bytes,
+) -> Result<(), NoMemory>
+    ensures ok { OnOk result (into.new ≡ into.old ++ text_of (Line.Dump table rows unsettled end)) }
+    ensures err { OnErr result (take (length into.old) into.new ≡ into.old) }
 {
     let table = i64::from(table);
     let rows = i64::from(rows);
     let unsettled = i64::from(unsettled);
     let end = i64::from(end);
-    number_line(alloc, b"dump", &[table, rows, unsettled, end])
+    push_number_line(b"dump", &[table, rows, unsettled, end], into)
 }
 
-fn text(alloc: Global, line: &Line) -> Result<Bytes, NoMemory>
-    ensures { IfOk result (λ text. text ≡ text_of line.now) }
+fn push_line(line: &Line, into: &mut Bytes) -> Result<(), NoMemory>
+    ensures ok { OnOk result (into.new ≡ into.old ++ text_of line.now) }
+    ensures err { OnErr result (take (length into.old) into.new ≡ into.old) }
 {
     match line {
-        Line::Motor(port, mode, power, state, ratio, regulation, limit) => motor_text(
-            alloc,
+        Line::Motor(port, mode, power, state, ratio, regulation, limit) => push_motor(
             *port,
             *mode,
             *power,
@@ -174,32 +188,33 @@ fn text(alloc: Global, line: &Line) -> Result<Bytes, NoMemory>
             *ratio,
             *regulation,
             *limit,
+            into,
         ),
         Line::Tone(frequency, duration, repeat, level) => {
-            tone_text(alloc, *frequency, *duration, *repeat, *level)
+            push_tone(*frequency, *duration, *repeat, *level, into)
         }
-        Line::Quiet => whole(alloc, b"quiet\n"),
+        Line::Quiet => into.append(b"quiet\n"),
         Line::Text(x, y, options, bytes) => {
-            bytes_line(alloc, b"text", &[*x, *y, *options], bytes.as_slice())
+            push_bytes_line(b"text", &[*x, *y, *options], bytes.as_slice(), into)
         }
-        Line::Point(x, y, options) => number_line(alloc, b"point", &[*x, *y, *options]),
+        Line::Point(x, y, options) => push_number_line(b"point", &[*x, *y, *options], into),
         Line::Line(x, y, to_x, to_y, options) => {
-            number_line(alloc, b"line", &[*x, *y, *to_x, *to_y, *options])
+            push_number_line(b"line", &[*x, *y, *to_x, *to_y, *options], into)
         }
         Line::Circle(x, y, size, options) => {
-            number_line(alloc, b"circle", &[*x, *y, *size, *options])
+            push_number_line(b"circle", &[*x, *y, *size, *options], into)
         }
         Line::Rect(x, y, width, height, options) => {
-            number_line(alloc, b"rect", &[*x, *y, *width, *height, *options])
+            push_number_line(b"rect", &[*x, *y, *width, *height, *options], into)
         }
-        Line::Screen(mode) => number_line(alloc, b"screen", &[*mode]),
-        Line::Reply(bytes) => bytes_line(alloc, b"reply", &[], bytes.as_slice()),
-        Line::Stop(why) => stop_text(alloc, *why),
+        Line::Screen(mode) => push_number_line(b"screen", &[*mode], into),
+        Line::Reply(bytes) => push_bytes_line(b"reply", &[], bytes.as_slice(), into),
+        Line::Stop(why) => push_stop(*why, into),
         Line::Dump(table, rows, unsettled, end) => {
-            dump_text(alloc, *table, *rows, *unsettled, *end)
+            push_dump(*table, *rows, *unsettled, *end, into)
         }
         Line::Bytes(place, bytes) => {
-            bytes_line(alloc, b"bytes", &[i64::from(*place)], bytes.as_slice())
+            push_bytes_line(b"bytes", &[i64::from(*place)], bytes.as_slice(), into)
         }
     }
 }
@@ -209,6 +224,10 @@ pub fn line_text(line: &Line, into: &mut Bytes) -> Result<(), NoMemory>
     ensures ok { OnOk result (into.new ≡ into.old ++ text_of line.now) }
     ensures err { OnErr result (into.new ≡ into.old) }
 {
-    let text = text(*into.as_vec().allocator(), line)?;
-    into.append(text.as_slice())
+    let before = into.len();
+    let added = push_line(line, into);
+    if added.is_err() {
+        into.truncate(before);
+    }
+    added
 }

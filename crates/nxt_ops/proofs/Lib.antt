@@ -3,6 +3,7 @@ pub mod Fitting
 pub mod Meanings
 pub mod PairedNumbers
 pub mod Words
+pub mod OnWords
 pub mod Readied
 pub mod OnLists
 pub mod Laws

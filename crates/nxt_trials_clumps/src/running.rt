@@ -49,7 +49,7 @@ fn run(alloc: Global, image: &Image, script: &[u8]) -> Result<Ended, Fail> {
 }
 
 /// A program runs the rows of a script, and gives a report.
-pub fn reports(
+pub(crate) fn reports(
     rt: &impl Abort,
     alloc: Global,
     name: &str,

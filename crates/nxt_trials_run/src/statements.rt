@@ -258,7 +258,7 @@ fn check(rt: &impl Abort, alloc: Global, layout: &Layout, story: &Story) -> Resu
 }
 
 /// Runs each story on the variables of a program at their start.
-pub fn check_all(
+pub(crate) fn check_all(
     rt: &impl Abort,
     alloc: Global,
     image: &Image,
@@ -272,7 +272,7 @@ pub fn check_all(
 }
 
 /// Runs the statement of each case on the variables of a program at their start.
-pub fn check_cases(
+pub(crate) fn check_cases(
     rt: &impl Abort,
     alloc: Global,
     image: &Image,

@@ -77,7 +77,7 @@ pub fn row_at(heap: &Heap, region: Region, at: u32) -> u16
     u16::from_le_bytes([bytes[at], bytes[at + 1]])
 }
 
-// The bytes of a number as a word.
+// The bytes of a number as a word. The kinds of 32 bits, which are the most frequent, are tested first.
 fn word_at(heap: &Heap, region: Region, at: u32, kind: Kind) -> u32
     requires region { IsRegion heap.now.lists region }
     requires within { at + size_of_leaf kind ≤ length (bytes_in heap.now.lists region) }
@@ -85,12 +85,12 @@ fn word_at(heap: &Heap, region: Region, at: u32, kind: Kind) -> u32
 {
     let bytes = bytes_at_region(heap, region);
     let at = at as usize;
+    if matches!(kind, Kind::Ulong | Kind::Slong) {
+        return u32::from_le_bytes([bytes[at], bytes[at + 1], bytes[at + 2], bytes[at + 3]]);
+    }
     match kind {
-        Kind::Ubyte | Kind::Sbyte => u32::from(bytes[at]),
         Kind::Uword | Kind::Sword => u32::from(u16::from_le_bytes([bytes[at], bytes[at + 1]])),
-        Kind::Ulong | Kind::Slong => {
-            u32::from_le_bytes([bytes[at], bytes[at + 1], bytes[at + 2], bytes[at + 3]])
-        }
+        _ => u32::from(bytes[at]),
     }
 }
 
@@ -101,6 +101,12 @@ pub fn number_at(heap: &Heap, region: Region, at: u32, kind: Kind) -> i64
     requires within { at + size_of_leaf kind ≤ length (bytes_in heap.now.lists region) }
     ensures { result ≡ number_in kind (drop at (bytes_in heap.now.lists region)) }
 {
+    if matches!(kind, Kind::Slong) {
+        return extend(Kind::Slong, word_at(heap, region, at, Kind::Slong));
+    }
+    if matches!(kind, Kind::Ulong) {
+        return extend(Kind::Ulong, word_at(heap, region, at, Kind::Ulong));
+    }
     extend(kind, word_at(heap, region, at, kind))
 }
 

@@ -54,7 +54,7 @@ pub fn set_row(heap: &mut Heap, region: Region, at: u32, row: u16)
     set_bytes(heap, region, at, &row.to_le_bytes());
 }
 
-/// Stores a number, cut to its kind.
+/// Stores a number, cut to its kind. The kinds of 32 bits are tested first.
 pub fn set_number(heap: &mut Heap, region: Region, at: u32, kind: Kind, x: i64)
     requires region { IsRegion heap.old.lists region }
     requires within { at + size_of_leaf kind ≤ length (bytes_in heap.old.lists region) }
@@ -62,10 +62,13 @@ pub fn set_number(heap: &mut Heap, region: Region, at: u32, kind: Kind, x: i64)
     ensures { heap.new.lists ≡ with_bytes heap.old.lists region (put (bytes_of_number kind x) at (bytes_in heap.old.lists region)) }
 {
     let bytes = wrap(x).to_le_bytes();
+    if matches!(kind, Kind::Ulong | Kind::Slong) {
+        set_bytes(heap, region, at, &bytes);
+        return;
+    }
     match kind {
-        Kind::Ubyte | Kind::Sbyte => set_bytes(heap, region, at, &bytes[..1]),
         Kind::Uword | Kind::Sword => set_bytes(heap, region, at, &bytes[..2]),
-        Kind::Ulong | Kind::Slong => set_bytes(heap, region, at, &bytes),
+        _ => set_bytes(heap, region, at, &bytes[..1]),
     }
 }
 

@@ -85,7 +85,7 @@ pub fn set(rt: &impl Abort, toc: &Toc, space: &mut Space, i: u16, x: i64)
     space.set(i, x);
 }
 
-pub fn length(
+pub(crate) fn length(
     rt: &impl Abort,
     alloc: Global,
     toc: &Toc,
@@ -99,7 +99,7 @@ pub fn length(
     Ok(space.length(path))
 }
 
-pub fn gather(
+pub(crate) fn gather(
     rt: &impl Abort,
     alloc: Global,
     toc: &Toc,
@@ -115,7 +115,7 @@ pub fn gather(
     Ok(())
 }
 
-pub fn room(
+pub(crate) fn room(
     rt: &impl Abort,
     toc: &Toc,
     space: &Space,
@@ -148,7 +148,7 @@ pub fn store(
 }
 
 /// The bytes that a list of bytes lends.
-pub fn lent(
+pub(crate) fn lent(
     rt: &impl Abort,
     alloc: Global,
     toc: &Toc,
