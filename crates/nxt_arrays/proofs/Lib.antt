@@ -1,3 +1,4 @@
 pub mod Fitting
 pub mod Meanings
 pub mod SeveralFitting
+mod Readied

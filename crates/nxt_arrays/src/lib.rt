@@ -2,6 +2,8 @@
 //! operations).
 #![tactic(auto)]
 
+pub mod ready;
 pub mod run;
 
+pub use ready::{Ready, made_ready, run_ready};
 pub use run::{run_array, runs};

@@ -17,13 +17,14 @@ enum Command {
     Check,
 }
 
-const EXAMPLES: [(&str, Command); 13] = [
+const EXAMPLES: [(&str, Command); 14] = [
     ("motor", Command::Run),
     ("rising", Command::Run),
     ("average", Command::Run),
     ("log", Command::Run),
     ("fills", Command::Run),
     ("shared_motor", Command::Run),
+    ("median", Command::Run),
     ("lost_jump", Command::Run),
     ("motor", Command::Check),
     ("average", Command::Check),

@@ -2,8 +2,13 @@ pub mod Between
 pub mod Conversions
 pub mod Copies
 pub mod Counted
+pub mod JoinedNumbers
 pub mod ListElements
 pub mod ListStored
+pub mod NumberLists
+pub mod NumberSections
+pub mod Replaced
+pub mod SameEntry
 pub mod Sections
 pub mod Sources
 pub mod Storable

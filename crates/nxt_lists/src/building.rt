@@ -13,6 +13,8 @@ ghost use Rattle.nxt_operands.specs.Operands.{Done, given, place_of, values_stor
 ghost use Rattle.nxt_lists.specs.Pieces.{pieces_of, many_filled, size_of_each};
 
 use crate::gathering::push_pieces;
+use crate::joining::{count_numbers, store_joined};
+use crate::numbers::store_copies;
 use nxt_operands::reading::flat_of;
 use nxt_operands::storing::{check_room, store};
 use nxt_space::{Flat, OpFault, Size, Space, spelled_size};
@@ -32,6 +34,11 @@ pub fn build(alloc: Global, space: &mut Space, dest: u16, sources: &[u16]) -> Re
     requires fit { All (λ i. goes_into (shape_of space.old.vars dest) (shape_of space.old.vars i) ≡ true) sources.now }
     ensures { (d : Devices) → Does Done (values_stored space.old.vars (place_of space.old.vars dest ∷ []) (build_means d (given space.old.vars dest ∷ map (given space.old.vars) sources.now))) space.old result space.new }
 {
+    if let Some(to) = space.list_spot(dest) {
+        if let Some(count) = count_numbers(space, dest, to, sources) {
+            return store_joined(alloc, space, dest, to, sources, count);
+        }
+    }
     let found = measured(alloc, space, dest, sources)?;
     check_room(space, dest, found.count, found.size)?;
     let flat = joined(alloc, space, dest, sources, found.count)?;
@@ -56,6 +63,9 @@ pub fn initialize(
     ensures { (d : Devices) → Does Done (values_stored space.old.vars (place_of space.old.vars dest ∷ []) (initialize_means d (given space.old.vars dest) (given space.old.vars value) (given space.old.vars count))) space.old result space.new }
 {
     let count = wrap(space.get(count));
+    if let (Some(to), Some(number)) = (space.list_spot(dest), space.spot(value)) {
+        return store_copies(alloc, space, dest, to, number, count);
+    }
     let one = flat_of(alloc, space, value)?;
     let (size, _) = spelled_size(element_of(space, dest), one.as_slice());
     check_room(space, dest, u64::from(count), times(size, count))?;

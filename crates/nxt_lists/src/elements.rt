@@ -11,6 +11,9 @@ ghost use Rattle.nxt_space.specs.Outcomes.{Does};
 ghost use Rattle.nxt_operands.specs.Operands.{Done, given, given_or_left, place_of, values_stored};
 
 use crate::gathering::{length_of, push_element, push_elements, push_pieces};
+use crate::joining::Piece;
+use crate::numbers::{replace_number, replace_numbers, store_section};
+use nxt_operands::lists::{lists_of_a_kind, pick};
 use nxt_operands::operands::word_or;
 use nxt_operands::storing::store;
 use nxt_space::{Flat, OpFault, Space};
@@ -26,7 +29,12 @@ pub fn index(alloc: Global, space: &mut Space, dest: u16, list: u16, at: u16) ->
     requires fit { convertible (shape_of space.old.vars dest) (element_of (shape_of space.old.vars list)) ≡ true }
     ensures { (d : Devices) → Does Done (values_stored space.old.vars (place_of space.old.vars dest ∷ []) (index_means d (given space.old.vars dest) (given space.old.vars list) (given_or_left space.old.vars at))) space.old result space.new }
 {
-    let flat = element_or_none(alloc, space, list, word_or(space, at, 0))?;
+    let k = word_or(space, at, 0);
+    if let (Some(number), Some(numbers)) = (space.spot(dest), space.list_spot(list)) {
+        pick(space, number, numbers, k);
+        return Ok(());
+    }
+    let flat = element_or_none(alloc, space, list, k)?;
     store(space, dest, &flat)
 }
 
@@ -62,7 +70,17 @@ pub fn replace(
     requires goes { goes_into (shape_of space.old.vars list) (shape_of space.old.vars new) ≡ true }
     ensures { (d : Devices) → Does Done (values_stored space.old.vars (place_of space.old.vars dest ∷ []) (replace_means d (given space.old.vars dest) (given space.old.vars list) (given_or_left space.old.vars at) (given space.old.vars new))) space.old result space.new }
 {
-    let flat = overwritten(alloc, space, list, word_or(space, at, 0), new)?;
+    let k = word_or(space, at, 0);
+    if let Some(spots) = lists_of_a_kind(space, dest, list) {
+        match Piece::at(space, spots.0.kind(), new) {
+            Some(Piece::Single(number)) => {
+                return replace_number(space, dest, list, spots, k, number);
+            }
+            Some(Piece::Each(numbers)) => return replace_numbers(alloc, space, spots, k, numbers),
+            None => {}
+        }
+    }
+    let flat = overwritten(alloc, space, list, k, new)?;
     store(space, dest, &flat)
 }
 
@@ -114,6 +132,9 @@ pub fn subset(
     let length = length_of(alloc, space, list);
     let from = word_or(space, at, 0).min(length);
     let count = word_or(space, count, length).min(length - from);
+    if let Some((to, numbers)) = lists_of_a_kind(space, dest, list) {
+        return store_section(alloc, space, to, numbers, from, from + count);
+    }
     let flat = list_between(alloc, space, list, from, from + count)?;
     store(space, dest, &flat)
 }

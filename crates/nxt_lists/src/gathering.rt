@@ -19,7 +19,10 @@ pub fn length_of(alloc: Global, space: &Space, list: u16) -> u32
     requires { IsSome (name_of space.now.vars list) }
     ensures { result ≡ length (elements (value_of space.now.vars list)) }
 {
-    space.length(&Path::whole(alloc, list))
+    match space.list_spot(list) {
+        Some(spot) => space.count(spot),
+        None => space.length(&Path::whole(alloc, list)),
+    }
 }
 
 /// Adds the flat form of a value.

@@ -4,6 +4,8 @@
 pub mod building;
 pub mod elements;
 mod gathering;
+mod joining;
+mod numbers;
 
 pub use building::{build, initialize};
 pub use elements::{array_size, index, replace, subset};

@@ -10,3 +10,5 @@ pub mod Stored
 pub mod Turns
 -- Statements on numbers, one behind another.
 pub mod Numbers
+-- A statement on an element of a list within a turn.
+pub mod Elements

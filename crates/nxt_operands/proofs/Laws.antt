@@ -14,3 +14,5 @@ pub mod Refusals
 pub mod Stored
 -- What the table tells of the shape that begins at an entry.
 pub mod Shapes
+-- Lists of numbers that stand in their place, with other elements.
+pub mod InPlace

@@ -2,6 +2,7 @@
 //! Executable File Specification, "Instruction Set").
 #![tactic(auto)]
 
+pub mod lists;
 pub mod operands;
 pub mod reading;
 pub mod storing;

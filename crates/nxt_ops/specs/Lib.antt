@@ -1,3 +1,5 @@
 pub mod Elements
 pub mod Ops
 pub mod Ready
+pub mod Passes
+pub mod Sides

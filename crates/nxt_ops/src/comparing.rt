@@ -4,15 +4,18 @@ ghost use Rattle.std.specs.Prelude.{◌≡◌, true, false, IfOk, IsSome};
 ghost use Rattle.nxt_types.specs.Shapes.{is_number};
 ghost use Rattle.nxt_types.specs.OperandRules.{is_plain, are_alike};
 ghost use Rattle.nxt_model.specs.Means.Numbers.{holds as holds_of};
-ghost use Rattle.nxt_space.specs.Variables.{AreSound, name_of, shape_of};
+ghost use Rattle.nxt_space.specs.Spots.{numbers_in_bytes};
+ghost use Rattle.nxt_space.specs.Variables.{AreSound, name_of, shape_of, value_of};
+ghost use Rattle.nxt_operands.specs.Numbers.{AreNumbers, numbers_in};
 ghost use Rattle.nxt_operands.specs.Operands.{given};
 ghost use Rattle.nxt_ops.specs.Ops.{deciding_numbers};
 
+use nxt_operands::lists::{count_in, word_in};
 use nxt_operands::operands::has_signed_elements;
 use nxt_operands::reading::numbers_of;
 use nxt_space::Space;
 use nxt_types::NoMemory;
-use nxt_types::kind::Cmp;
+use nxt_types::kind::{Cmp, Kind};
 use nxt_types::numbers::{compares, taken};
 use std::alloc::Global;
 
@@ -27,10 +30,50 @@ pub fn holds(alloc: Global, space: &Space, cmp: Cmp, x: u16, y: u16) -> Result<b
     ensures { IfOk result (λ b. b ≡ holds_of cmp (given space.now.vars x) (given space.now.vars y)) }
 {
     let signed = has_signed_elements(space, x) || has_signed_elements(space, y);
+    let (a, b) = deciding_at(alloc, signed, space, x, y)?;
+    Ok(compares(cmp, a, b))
+}
+
+// The two numbers that decide a comparison of two lists of numbers.
+fn deciding_at(
+    alloc: Global,
+    signed: bool,
+    space: &Space,
+    x: u16,
+    y: u16,
+) -> Result<(i64, i64), NoMemory>
+    requires x { IsSome (name_of space.now.vars x) }
+    requires y { IsSome (name_of space.now.vars y) }
+    requires list_x { AreNumbers (value_of space.now.vars x) }
+    requires list_y { AreNumbers (value_of space.now.vars y) }
+    ensures { IfOk result (λ pair. pair ≡ deciding_numbers signed (numbers_in (value_of space.now.vars x)) (numbers_in (value_of space.now.vars y))) }
+{
+    if let (Some(a), Some(b)) = (space.list_spot(x), space.list_spot(y)) {
+        let (xs, ys) = (space.bytes(a), space.bytes(b));
+        return Ok(deciding_in_place(signed, a.kind(), xs, b.kind(), ys));
+    }
     let xs = numbers_of(alloc, space, x)?;
     let ys = numbers_of(alloc, space, y)?;
-    let (a, b) = deciding(signed, xs.as_slice(), ys.as_slice());
-    Ok(compares(cmp, a, b))
+    Ok(deciding(signed, xs.as_slice(), ys.as_slice()))
+}
+
+// The two numbers that decide a comparison of lists whose numbers stand in bytes one behind another.
+fn deciding_in_place(signed: bool, k: Kind, xs: &[u8], l: Kind, ys: &[u8]) -> (i64, i64)
+    ensures { result ≡ deciding_numbers signed (numbers_in (numbers_in_bytes k xs.now)) (numbers_in (numbers_in_bytes l ys.now)) }
+{
+    if k == l && xs == ys {
+        return (0, 0);
+    }
+    let (count, other) = (count_in(k, xs), count_in(l, ys));
+    let both = count.min(other);
+    for i in 0..both {
+        let a = taken(signed, i64::from(word_in(k, xs, i)));
+        let b = taken(signed, i64::from(word_in(l, ys, i)));
+        if a != b {
+            return (a, b);
+        }
+    }
+    ((count - both) as i64, (other - both) as i64)
 }
 
 // The two numbers that decide a comparison of lists.

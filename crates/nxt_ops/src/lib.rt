@@ -3,8 +3,10 @@
 #![tactic(auto)]
 
 mod comparing;
+mod in_place;
 mod lists;
 mod operator;
+mod passes;
 pub mod ready;
 pub mod run;
 

@@ -1,6 +1,6 @@
 // Operators on lists of numbers, element by element.
 
-ghost use Rattle.std.specs.Prelude.{◌≡◌, ◌<◌, ◌^◌, ◌∷◌, true, false, length, slice_get, Some, IfOk, IsSome};
+ghost use Rattle.std.specs.Prelude.{◌≡◌, ◌<◌, ◌^◌, true, false, length, IfOk, IsSome};
 ghost use Rattle.nxt_types.specs.OperandRules.{is_plain, are_alike};
 ghost use Rattle.nxt_types.specs.Shapes.{is_number as is_number_shape};
 ghost use Rattle.nxt_model.specs.Means.Effects.{element};
@@ -13,7 +13,9 @@ ghost use Rattle.nxt_operands.specs.Operands.{AllTrue, Done, given};
 ghost use Rattle.nxt_ops.specs.Ops.{value_of_two, value_of_one, asked_of_two};
 ghost use Rattle.nxt_ops.specs.Elements.{place_number, pairs_of, words_of_pairs, words_of_each, numbers_by};
 
+use crate::in_place::{changed_words, combined_words, side_at, two_lists};
 use crate::operator::{One, Two};
+use crate::passes::store_words;
 use nxt_operands::operands::{has_signed_elements, is_number};
 use nxt_operands::reading::numbers_of;
 use nxt_operands::storing::store;
@@ -46,6 +48,14 @@ pub fn combine_lists(
     ensures { Does Done (with_value space.old.vars dest (stored (shape_of space.old.vars dest) (value_of_two operator (shape_of space.old.vars dest) (given space.old.vars x) (given space.old.vars y)))) space.old result space.new }
 {
     let signed = either_has_signed_elements(space, x, y);
+    if let (Some(to), Some(x), Some(y)) = (
+        space.list_spot(dest),
+        side_at(space, x),
+        side_at(space, y),
+    ) {
+        let words = combined_words(alloc, operator, signed, space, x, y)?;
+        return store_words(alloc, space, to, &words);
+    }
     let flat = words_of(alloc, operator, signed, space, x, y)?;
     store(space, dest, &flat)
 }
@@ -67,6 +77,10 @@ pub fn map_list(
     ensures { Does Done (with_value space.old.vars dest (stored (shape_of space.old.vars dest) (value_of_one operator (shape_of space.old.vars dest) (given space.old.vars x)))) space.old result space.new }
 {
     let signed = has_signed_elements(space, x);
+    if let Some((to, from)) = two_lists(space, dest, x) {
+        let words = changed_words(alloc, operator, signed, space, from)?;
+        return store_words(alloc, space, to, &words);
+    }
     let flat = mapped(alloc, operator, signed, space, x)?;
     store(space, dest, &flat)
 }

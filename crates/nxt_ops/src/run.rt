@@ -10,13 +10,15 @@ ghost use Rattle.nxt_model.specs.Values.{Num, stored};
 ghost use Rattle.nxt_ops.specs.Ready.{on_numbers};
 ghost use Rattle.nxt_space.specs.Variables.{AreSound, name_of, shape_of, value_of, with_value};
 ghost use Rattle.nxt_space.specs.Outcomes.{Does};
-ghost use Rattle.nxt_operands.specs.Operands.{AllTrue, Done, given};
+ghost use Rattle.nxt_operands.specs.Operands.{Done, given};
 ghost use Rattle.nxt_ops.specs.Ops.{CanRun, statement_in, next_of, effect_in, values_after, stores, runs as does_run, two_of as operator_on_two, one_of as operator_on_one};
 
 use crate::comparing::holds;
+use crate::in_place::{convert_list, two_lists};
 use crate::lists::{combine_lists, map_list};
 use crate::operator::{One, Two};
 use crate::ready::{made_ready, run_ready};
+use nxt_operands::lists::lists_of_a_kind;
 use nxt_operands::operands::is_number;
 use nxt_operands::reading::flat_of;
 use nxt_operands::storing::store;
@@ -66,7 +68,7 @@ pub fn run_op(alloc: Global, i: &Instr, toc: &Toc, space: &mut Space) -> Result<
     ensures { (d : Devices) (t : Clock) → Does (λ next. next ≡ next_of i.now (effect_in space.old.vars i.now d t).jumps) (values_after space.old.vars i.now d t) space.old result space.new }
 {
     // From place 0 it goes on at 0 where it jumps there, and else at 1.
-    if let Some(place) = run_ready(made_ready(i, space, 0), 0, space) {
+    if let Some(place) = run_ready(&made_ready(i, space, 0), 0, space) {
         return Ok(going_on(i, place == 0));
     }
     if i.op == Op::Brcmp {
@@ -169,6 +171,13 @@ fn copy(alloc: Global, space: &mut Space, dest: u16, source: u16) -> Result<(), 
     requires fit { convertible (shape_of space.old.vars dest) (shape_of space.old.vars source) ≡ true }
     ensures { Does Done (with_value space.old.vars dest (stored (shape_of space.old.vars dest) (value_of space.old.vars source))) space.old result space.new }
 {
+    if let Some((to, from)) = lists_of_a_kind(space, dest, source) {
+        space.copy_list(to, from)?;
+        return Ok(());
+    }
+    if let Some((to, from)) = two_lists(space, dest, source) {
+        return convert_list(alloc, space, to, from);
+    }
     let flat = flat_of(alloc, space, source)?;
     store(space, dest, &flat)
 }

@@ -12,3 +12,5 @@ pub mod Members
 pub mod NoBytes
 -- Numbers that are stored by their words.
 pub mod Words
+-- Numbers that stand in bytes one behind another.
+pub mod InBytes

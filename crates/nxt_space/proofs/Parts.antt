@@ -14,7 +14,7 @@ pub mod Replaced
 pub mod ByteLists
 -- Numbers that are read and stored where they stand.
 pub mod Spots
--- Numbers that stand in bytes one behind another.
-pub mod NumberLists
 -- Lists of numbers that are read and stored where they stand.
 pub mod ListSpots
+-- A list that gets more bytes.
+pub mod Extended

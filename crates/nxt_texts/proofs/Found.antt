@@ -29,9 +29,9 @@ default_word Left = refl
 abbrev pub default_numeral : Operand → Numeral
 default_numeral o = record { word = word_or 0 o; length = 0 }
 
-pub found_short : (o : Option Numeral) (other : Numeral) (k m : ℕ) → IfSome o (λ n. n.length ≤ k) → k ≤ m → other.length ≤ m → (unwrap_or o other).length ≤ m
-found_short None other k m h less e = e
-found_short (Some n) other k m h less e = omega (arith, h)
+pub found_short : (o : Option Numeral) (other : Numeral) (m : ℕ) → IfSome o (λ n. n.length ≤ m) → other.length ≤ m → (unwrap_or o other).length ≤ m
+found_short None other m h e = e
+found_short (Some n) other m h e = h
 
 pub found_stored : (old mid new : SpaceViews) (dest past at : ℕ) (default : Operand) (r : Option (ℤ × ℕ)) (found : Numeral) (d : Devices) → AreSound old.vars → is_number (shape_of old.vars dest) ≡ true → ((past == 0xFFFF) ≡ false → is_number (shape_of old.vars past) ≡ true) → found ≡ unwrap_or (option_map numeral r) (default_numeral default) → mid.vars ≡ record old.vars { values = with_value old.vars dest (stored (shape_of old.vars dest) (Num (pos found.word))) } → new.vars ≡ with_number mid.vars past (pos (at + found.length)) → Does {T = Unit {0}} Done (values_stored old.vars (place_of old.vars dest ∷ place_or_none old.vars past ∷ []) (found_number r d (given old.vars dest) (given_or_left old.vars past) at default)) old (Ok tt) new
 found_stored old mid new dest past at default None found d sound is number e first second =

@@ -1,6 +1,10 @@
 pub mod Destinations
 pub mod Digits
 pub mod Found
+pub mod Grown
+pub mod InPlace
+pub mod Overwritten
+pub mod PackedNumbers
 pub mod PackedValues
 pub mod Telling
 pub mod Texts

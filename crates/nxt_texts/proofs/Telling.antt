@@ -1,5 +1,5 @@
 -- A number that is told beside a value.
-use Rattle.std.proofs.Common.{length, IsSome, MatchOption, Result, le-leb, ◌≡◌, ℕ, ◌+◌, ◌*◌, ◌≤◌, ◌<◌, ◌==◌, max, Bool, true, false, [], ◌∷◌, ◌++◌, List, Option, Some, None, Ok, Err, refl, sym, ap, ap₂, ◌∙◌, subst, arith}
+use Rattle.std.proofs.Common.{length, IsSome, Result, le-leb, ◌≡◌, ℕ, ◌+◌, ◌*◌, ◌≤◌, ◌<◌, ◌==◌, max, Bool, true, false, [], ◌∷◌, ◌++◌, List, Option, Some, None, Ok, Err, refl, sym, ap, ap₂, ◌∙◌, subst, arith}
 use Rattle.std.specs.Prelude.{ℤ, pos, if◌then◌else◌, IsErrAnd}
 use Rattle.std.proofs.lemmas.Bool.{lt-leb}
 use Rattle.nxt_types.specs.Names.{Name}
@@ -22,7 +22,7 @@ use Rattle.nxt_operands.specs.Operands.{Done, given, given_or_left, place_of, pl
 use Rattle.nxt_operands.proofs.Laws.Sizes.{IsSoundPart, sound_part}
 use Rattle.nxt_operands.proofs.Laws.Refusals.{passed_on}
 use Rattle.nxt_operands.proofs.Laws.Stored.{IsStorable, part_storable}
-use Rattle.nxt_texts.specs.Packing.{told_in}
+use Rattle.nxt_texts.specs.Packing.{told_in, IsUnpacked}
 use Rattle.nxt_texts.specs.Numerals.{with_number}
 use Rattle.nxt_texts.specs.Texts.{text_at}
 use Rattle.nxt_operands.proofs.Laws.OneStored.{one_placed}
@@ -141,20 +141,13 @@ pub record IsFound (s : Variables) (source i : ℕ) (zs : List ℤ) : Type 0 whe
   pub fits : packed_size (shape_of s i) ≤ length (text_at s source)
   pub is : zs ≡ flat (unpacked (shape_of s i) (text_at s source))
 
-pub found_there : (s : Variables) (source i : ℕ) (bytes : List ℕ) (zs : List ℤ) (found : Option (List ℤ)) → bytes ≡ text_at s source → found ≡ Some zs → MatchOption found (length bytes < packed_size (shape_of s i)) (λ flat_form. (packed_size (shape_of s i) ≤ length bytes) × (flat_form ≡ flat (unpacked (shape_of s i) bytes))) → IsFound s source i zs
-found_there s source i bytes zs found text is h =
-    let t = shape_of s i in
-    let both = subst (λ o. MatchOption o (length bytes < packed_size t) (λ flat_form. (packed_size t ≤ length bytes) × (flat_form ≡ flat (unpacked t bytes)))) is h in
-    record {
-      fits = subst (λ bs. packed_size t ≤ length bs) text both.0;
-      is = both.1 ∙ ap (λ bs. flat (unpacked t bs)) text;
-    }
+pub found_there : (s : Variables) (source i : ℕ) (zs : List ℤ) (found : Option (List ℤ)) → found ≡ Some zs → IsUnpacked (shape_of s i) (text_at s source) found → IsFound s source i zs
+found_there s source i zs found is h =
+    let both = subst (IsUnpacked (shape_of s i) (text_at s source)) is h in
+    record { fits = both.0; is = both.1 }
 
-pub none_there : (s : Variables) (source i : ℕ) (bytes : List ℕ) (found : Option (List ℤ)) → bytes ≡ text_at s source → found ≡ None → MatchOption found (length bytes < packed_size (shape_of s i)) (λ flat_form. (packed_size (shape_of s i) ≤ length bytes) × (flat_form ≡ flat (unpacked (shape_of s i) bytes))) → length (text_at s source) < packed_size (shape_of s i)
-none_there s source i bytes found text is h =
-    let t = shape_of s i in
-    subst (λ bs. length bs < packed_size t) text
-    (subst (λ o. MatchOption o (length bytes < packed_size t) (λ flat_form. (packed_size t ≤ length bytes) × (flat_form ≡ flat (unpacked t bytes)))) is h)
+pub none_there : (s : Variables) (source i : ℕ) (found : Option (List ℤ)) → found ≡ None → IsUnpacked (shape_of s i) (text_at s source) found → length (text_at s source) < packed_size (shape_of s i)
+none_there s source i found is h = subst (IsUnpacked (shape_of s i) (text_at s source)) is h
 
 -- it can be stored where a value of the entry can
 pub unpacked_storable : (s : Variables) (dest i : ℕ) (bytes : List ℕ) (zs : List ℤ) → AreSound s → IsSome (name_of s dest) → IsSome (name_of s i) → has_list (shape_of s i) ≡ false → convertible (shape_of s dest) (shape_of s i) ≡ true → zs ≡ flat (unpacked (shape_of s i) bytes) → IsStorable s dest (unpacked (shape_of s i) bytes) zs

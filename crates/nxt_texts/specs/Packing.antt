@@ -1,6 +1,9 @@
 -- Values as bytes, and a number that is told beside a value.
-use Rattle.std.specs.Prelude.{◌≡◌, ◌<◌, ◌≤◌, ℕ, List, [], ◌++◌, length, drop, ℤ, Option, Some, None}
+use Rattle.std.specs.Prelude.{◌≡◌, ◌<◌, ◌≤◌, ℕ, List, [], ◌++◌, length, drop, take, ℤ, Option, Some, None, MatchOption}
 use Rattle.std.proofs.Common.{Bor}
+use Rattle.std.specs.Int.{from_le_bytes}
+use Rattle.nxt_types.specs.Arithmetic.{leaf_size, width_of}
+use Rattle.nxt_types.specs.declared.kind.Kind.{Kind}
 use Rattle.nxt_types.specs.Shapes.{Shape, Void, Number, Array, Cluster, Mutex, Members, no_members, member}
 use Rattle.nxt_model.specs.Means.Text.{packed, packed_size, packed_sizes, unpacked, unpacked_members}
 use Rattle.nxt_model.specs.Values.{Value, Num, flat, flats}
@@ -36,3 +39,13 @@ UnpackAll ss bytes old new (Some rest) =
 -- the values with a number for an operand, which may be left out
 abbrev pub told_in : Variables → ℕ → ℤ → Value → Value
 told_in s i z vars = (with_number (record s { values = vars }) i z).values
+
+-- the flat form of the value of the shape that the bytes begin with; none where there are too few
+abbrev pub IsUnpacked : Shape → List ℕ → Option (List ℤ) → Type 0
+IsUnpacked s bytes found =
+    MatchOption found (length bytes < packed_size s) (λ zs. (packed_size s ≤ length bytes) × (zs ≡ flat (unpacked s bytes)))
+
+-- the word of the number of a kind that the bytes begin with; none where there are too few
+abbrev pub IsWordFound : Kind → List ℕ → Option ℕ → Type 0
+IsWordFound k bytes found =
+    MatchOption found (length bytes < leaf_size k) (λ w. (leaf_size k ≤ length bytes) × (w ≡ from_le_bytes (width_of k) (take (leaf_size k) bytes)))

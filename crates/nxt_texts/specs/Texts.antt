@@ -10,6 +10,8 @@ use Rattle.nxt_space.specs.Variables.{Variables, SpaceViews, value_of}
 use Rattle.nxt_space.specs.Outcomes.{Does}
 use Rattle.nxt_space.specs.declared.fault.OpFault.{OpFault}
 use Rattle.nxt_operands.specs.Operands.{Done, given, place_of, values_stored}
+use Rattle.nxt_texts.specs.declared.text.Text.{Text}
+use Rattle.nxt_texts.specs.declared.text.Text.TheVariants.{Lent, Gathered}
 
 -- ---- texts
 
@@ -23,6 +25,11 @@ body_at s i = body (text_at s i)
 -- the bodies of texts, one after another
 abbrev pub bodies_at : Variables → List ℕ → List ℕ
 bodies_at s is = flat_map (body_at s) is
+
+-- the bytes of a text that was read
+abbrev pub bytes_in : Text → List ℕ
+bytes_in (Lent bytes) = bytes.now
+bytes_in (Gathered bytes) = bytes
 
 abbrev pub IsByte : ℤ → Type 0
 IsByte z = (pos 0 ≤ℤ z) × (z ≤ℤ pos 255)

@@ -1,10 +1,11 @@
 // Numbers in texts.
 
-ghost use Rattle.std.specs.Prelude.{◌≡◌, ◌∷◌, ◌==◌, ◌%◌, ◌^◌, ◌≤◌, [], true, false, length, string_bytes, IfOk, IfSome, IsSome};
+ghost use Rattle.std.specs.Prelude.{◌≡◌, ◌∷◌, ◌==◌, ◌%◌, ◌^◌, ◌≤◌, [], true, false, drop, length, string_bytes, IfOk, IfSome, IsSome};
 ghost use Rattle.std.specs.Fmt.{signed_decimal};
 ghost use Rattle.std.specs.List.{prefix_len, take_while};
 ghost use Rattle.nxt_types.specs.Arithmetic.{word as word_of};
 ghost use Rattle.nxt_types.specs.Calls.{is_text};
+ghost use Rattle.nxt_types.specs.Pool.{pool_size};
 ghost use Rattle.nxt_types.specs.Shapes.{is_number};
 ghost use Rattle.nxt_model.specs.Devices.{Devices};
 ghost use Rattle.nxt_model.specs.Means.Strings.{number_to_string as to_string_means, string_to_number as to_number_means};
@@ -13,6 +14,7 @@ ghost use Rattle.nxt_space.specs.Variables.{AreSound, name_of, shape_of};
 ghost use Rattle.nxt_space.specs.Outcomes.{Does};
 ghost use Rattle.nxt_operands.specs.Operands.{Done, given, given_or_left, place_of, place_or_none, values_stored};
 ghost use Rattle.nxt_texts.specs.Numerals.{is_space, numeral_at as numeral_of};
+ghost use Rattle.nxt_texts.specs.Texts.{body_at};
 
 use crate::operands::set_unless_left_out;
 use crate::text::{behind, body, store_text, text_of};
@@ -73,16 +75,32 @@ pub fn string_to_number(
     requires source_text { is_text (shape_of space.old.vars source) ≡ true }
     ensures { (d : Devices) → Does Done (values_stored space.old.vars (place_of space.old.vars dest ∷ place_or_none space.old.vars past ∷ []) (to_number_means d (given space.old.vars dest) (given_or_left space.old.vars past) (given space.old.vars source) (given_or_left space.old.vars offset) (given_or_left space.old.vars default))) space.old result space.new }
 {
-    let text = text_of(alloc, space, source)?;
     let at = word_or(space, offset, 0);
     let default = Numeral {
         word: word_or(space, default, 0),
         length: 0,
     };
-    let found = numeral_at(behind(body(text.as_slice()), at)).unwrap_or(default);
+    let found = numeral_in(alloc, space, source, at)?.unwrap_or(default);
     space.set(dest, i64::from(found.word));
     set_unless_left_out(space, past, i64::from(at) + found.length as i64);
     Ok(())
+}
+
+// The number that a text's body has from a place on, behind spaces and a sign.
+fn numeral_in(
+    alloc: Global,
+    space: &Space,
+    source: u16,
+    at: u32,
+) -> Result<Option<Numeral>, NoMemory>
+    requires sound { AreSound space.now.vars }
+    requires source { IsSome (name_of space.now.vars source) }
+    requires text { is_text (shape_of space.now.vars source) ≡ true }
+    ensures numeral { IfOk result (λ found. found ≡ numeral_of (drop at (body_at space.now.vars source))) }
+    ensures within { IfOk result (λ found. IfSome found (λ n. n.length ≤ pool_size)) }
+{
+    let text = text_of(alloc, space, source)?;
+    Ok(numeral_at(behind(body(text.bytes()), at)))
 }
 
 // The number that a text begins with, behind spaces and a sign.

@@ -1,26 +1,28 @@
 // Values without lists as bytes.
 
-ghost use Rattle.std.specs.Prelude.{◌≡◌, ◌∷◌, ◌++◌, ◌==◌, ◌≤◌, [], true, false, drop, length, map, take, ◌<◌, IfOk, IsSome, MatchOption};
-ghost use Rattle.std.specs.Int.{from_le_bytes};
-ghost use Rattle.nxt_types.specs.Arithmetic.{leaf_size as size_of_leaf, width_of};
+ghost use Rattle.std.specs.Prelude.{◌≡◌, ℕ, ◌∷◌, ◌++◌, ◌==◌, ◌≤◌, [], true, false, drop, length, map, ◌<◌, IfOk, IsSome, MatchOption};
 ghost use Rattle.nxt_types.specs.Calls.{is_text};
 ghost use Rattle.nxt_types.specs.Shapes.{convertible, has_list, is_number, tree, members};
 ghost use Rattle.nxt_model.specs.Devices.{Devices};
 ghost use Rattle.nxt_model.specs.Means.Strings.{flatten as flatten_means, unflatten as unflatten_means};
 ghost use Rattle.nxt_model.specs.Means.Text.{packed, packed_size, unpacked};
-ghost use Rattle.nxt_model.specs.Values.{flat as flat_form};
+ghost use Rattle.nxt_model.specs.Values.{Num, flat as flat_form, stored};
 ghost use Rattle.nxt_values.specs.Fills.{filled, first_of};
 ghost use Rattle.nxt_values.specs.Sizes.{IsCountable, size_of_filled};
 ghost use Rattle.nxt_space.specs.Variables.{AreSound, name_of, shape_of, value_of, with_value};
 ghost use Rattle.nxt_space.specs.Outcomes.{Does};
+ghost use Rattle.nxt_space.specs.Spots.{IsSpot};
 ghost use Rattle.nxt_operands.specs.Operands.{Done, given, given_or_left, place_of, place_or_none, values_stored};
-ghost use Rattle.nxt_texts.specs.Packing.{packed_front, packed_fronts, Unpacks, UnpackAll, told_in};
+ghost use Rattle.nxt_texts.specs.Numerals.{with_number};
+ghost use Rattle.nxt_texts.specs.Packing.{packed_front, packed_fronts, Unpacks, UnpackAll, told_in, IsUnpacked, IsWordFound};
+ghost use Rattle.nxt_texts.specs.Texts.{text_at};
 
 use crate::operands::set_unless_left_out;
 use crate::text::{store_text, text_of};
+use nxt_operands::lists::first_word;
 use nxt_operands::reading::flat_of;
 use nxt_operands::storing::store;
-use nxt_space::{Flat, OpFault, Space};
+use nxt_space::{Flat, OpFault, Space, Spot};
 use nxt_types::kind::Kind;
 use nxt_types::numbers::{extend, leaf_size, wrap};
 use nxt_types::shape::Shape;
@@ -38,6 +40,11 @@ pub fn flatten(alloc: Global, space: &mut Space, dest: u16, value: u16) -> Resul
     requires no_list { has_list (shape_of space.old.vars value) ≡ false }
     ensures { (d : Devices) → Does Done (values_stored space.old.vars (place_of space.old.vars dest ∷ []) (flatten_means d (given space.old.vars dest) (given space.old.vars value))) space.old result space.new }
 {
+    if let Some(number) = space.spot(value) {
+        let word = space.word(number).to_le_bytes();
+        let size = leaf_size(number.kind()) as usize;
+        return store_text(alloc, space, dest, &word[..size]);
+    }
     let bytes = packed_of(alloc, space, value)?;
     store_text(alloc, space, dest, bytes.as_slice())
 }
@@ -130,8 +137,10 @@ pub fn unflatten(
     requires fit { convertible (shape_of space.old.vars dest) (shape_of space.old.vars kind_of) ≡ true }
     ensures { (d : Devices) → Does Done (values_stored space.old.vars (place_of space.old.vars dest ∷ place_or_none space.old.vars error ∷ []) (unflatten_means d (given space.old.vars dest) (given_or_left space.old.vars error) (given space.old.vars source) (given space.old.vars kind_of))) space.old result space.new }
 {
-    let text = text_of(alloc, space, source)?;
-    let found = unpacked_of(alloc, space, kind_of, text.as_slice())?;
+    if let Some(other) = space.spot(kind_of) {
+        return unflatten_number(alloc, space, dest, error, source, other);
+    }
+    let found = value_in(alloc, space, source, kind_of)?;
     match found {
         Some(flat) => store_and_tell(space, dest, &flat, error, 0),
         None => {
@@ -141,10 +150,79 @@ pub fn unflatten(
     }
 }
 
+// The same where both values are numbers. It takes no memory where the text is lent.
+fn unflatten_number(
+    alloc: Global,
+    space: &mut Space,
+    dest: u16,
+    error: u16,
+    source: u16,
+    other: Spot,
+) -> Result<(), OpFault>
+    requires sound { AreSound space.old.vars }
+    requires source { IsSome (name_of space.old.vars source) }
+    requires other { (i : ℕ) × IsSpot space.old.vars i other }
+    requires dest { is_number (shape_of space.old.vars dest) ≡ true }
+    requires error { (error == 0xFFFF) ≡ false → is_number (shape_of space.old.vars error) ≡ true }
+    requires text { is_text (shape_of space.old.vars source) ≡ true }
+    ensures { (i : ℕ) → IsSpot space.old.vars i other → (d : Devices) → Does Done (values_stored space.old.vars (place_of space.old.vars dest ∷ place_or_none space.old.vars error ∷ []) (unflatten_means d (given space.old.vars dest) (given_or_left space.old.vars error) (given space.old.vars source) (given space.old.vars i))) space.old result space.new }
+{
+    let found = word_in(alloc, space, source, other.kind())?;
+    let Some(word) = found else {
+        set_and_tell(space, dest, space.number(other), error, 1);
+        return Ok(());
+    };
+    set_and_tell(space, dest, extend(other.kind(), word), error, 0);
+    Ok(())
+}
+
+// Stores a number, and another one for an operand that may be left out.
+fn set_and_tell(space: &mut Space, dest: u16, number: i64, error: u16, code: i64)
+    requires dest { is_number (shape_of space.old.vars dest) ≡ true }
+    requires error { (error == 0xFFFF) ≡ false → is_number (shape_of space.old.vars error) ≡ true }
+    ensures { space.new.vars ≡ with_number (record space.old.vars { values = with_value space.old.vars dest (stored (shape_of space.old.vars dest) (Num number)) }) error code }
+{
+    space.set(dest, number);
+    set_unless_left_out(space, error, code);
+}
+
+// The word of a number of a kind that a text begins with; none where it is too short.
+fn word_in(alloc: Global, space: &Space, source: u16, kind: Kind) -> Result<Option<u32>, NoMemory>
+    requires sound { AreSound space.now.vars }
+    requires source { IsSome (name_of space.now.vars source) }
+    requires text { is_text (shape_of space.now.vars source) ≡ true }
+    ensures { IfOk result (λ found. IsWordFound kind (text_at space.now.vars source) found) }
+{
+    let text = text_of(alloc, space, source)?;
+    Ok(word_at_front(kind, text.bytes()))
+}
+
+// The word of a number of a kind that the bytes begin with; none where there are too few.
+fn word_at_front(kind: Kind, bytes: &[u8]) -> Option<u32>
+    ensures { IsWordFound kind bytes.now result }
+{
+    if bytes.len() < leaf_size(kind) as usize {
+        return None;
+    }
+    Some(first_word(kind, bytes))
+}
+
+// The flat form of the value of another one's shape that a text begins with; none where it is too short.
+fn value_in(alloc: Global, space: &Space, source: u16, i: u16) -> Result<Option<Flat>, NoMemory>
+    requires sound { AreSound space.now.vars }
+    requires source { IsSome (name_of space.now.vars source) }
+    requires text { is_text (shape_of space.now.vars source) ≡ true }
+    requires named { IsSome (name_of space.now.vars i) }
+    ensures { IfOk result (λ found. IsUnpacked (shape_of space.now.vars i) (text_at space.now.vars source) found) }
+{
+    let text = text_of(alloc, space, source)?;
+    unpacked_of(alloc, space, i, text.bytes())
+}
+
 // The flat form of the value of another one's shape that the bytes begin with; none where there are too few.
 fn unpacked_of(alloc: Global, space: &Space, i: u16, bytes: &[u8]) -> Result<Option<Flat>, NoMemory>
     requires { IsSome (name_of space.now.vars i) }
-    ensures { IfOk result (λ found. MatchOption found (length bytes.now < packed_size (shape_of space.now.vars i)) (λ flat. (packed_size (shape_of space.now.vars i) ≤ length bytes.now) × (flat ≡ flat_form (unpacked (shape_of space.now.vars i) bytes.now)))) }
+    ensures { IfOk result (λ found. IsUnpacked (shape_of space.now.vars i) bytes.now found) }
 {
     let Some(shape) = space.shape(i) else {
         return Ok(None);
@@ -194,20 +272,6 @@ fn unpack_members<'a>(
         }
     }
     Ok(Some(left))
-}
-
-// The first bytes of a number of a kind as a word.
-fn first_word(kind: Kind, bytes: &[u8]) -> u32
-    requires { size_of_leaf kind ≤ length bytes.now }
-    ensures { result ≡ from_le_bytes (width_of kind) (take (size_of_leaf kind) bytes.now) }
-{
-    match kind {
-        Kind::Ubyte | Kind::Sbyte => u32::from(bytes[0]),
-        Kind::Uword | Kind::Sword => u32::from(u16::from_le_bytes([bytes[0], bytes[1]])),
-        Kind::Ulong | Kind::Slong => {
-            u32::from_le_bytes([bytes[0], bytes[1], bytes[2], bytes[3]])
-        }
-    }
 }
 
 // Stores the value that the numbers begin with, and a number for an operand that may be left out.

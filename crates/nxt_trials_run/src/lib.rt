@@ -1,8 +1,6 @@
-//! Tests that run programs: statements on variables, the variables in the pool, and the tool's commands.
+//! Tests that run programs: statements on variables, and the tool's commands.
 #![tactic(auto)]
 
-#[cfg(test)]
-mod space;
 #[cfg(test)]
 mod statements;
 #[cfg(test)]

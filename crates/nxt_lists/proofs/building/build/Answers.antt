@@ -10,6 +10,17 @@ use Rattle.nxt_lists.proofs.ListStored.{list_size, list_storable}
 use Rattle.nxt_lists.proofs.Sources.{pieces_for}
 use Rattle.nxt_lists.proofs.building.build.Goals as goal
 
+pub store_joined-requires-clause-few : goal.store_joined-requires-clause-few
+store_joined-requires-clause-few c =
+    let s = c.args.space.now.vars in
+    let are = pieces_for s c.args.dest c.args.sources.now (record { sound = c.requires.sound; of_list = c.requires.of_list; named = c.requires.sources; fit = c.requires.fit }) c.requires.few in
+    omega (arith, c.in-Some-count_numbers.ensures.count, are.few)
+
+pub returns-in-Some-count_numbers : goal.returns-in-Some-count_numbers
+returns-in-Some-count_numbers c d =
+    let vs = pieces_of c.args.space.now.vars c.args.dest c.args.sources.now in
+    given_stored c.args.space.now c.store_joined.new.space c.args.dest (list_of vs) c.store_joined.result c.store_joined.ensures d
+
 pub check_room-requires-clause-countable : goal.check_room-requires-clause-countable
 check_room-requires-clause-countable c =
     let s = c.args.space.now.vars in

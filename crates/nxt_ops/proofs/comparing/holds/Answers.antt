@@ -1,25 +1,24 @@
 -- By their shapes both are lists of numbers.
-use Rattle.std.proofs.Common.{rules, ◌≡◌, w64, ap₂, ◌∙◌}
+use Rattle.std.proofs.Common.{rules, ◌≡◌, ℤ, w64, ap₂, ◌∙◌}
 use Rattle.std.proofs.Math.Facts.{to_z-of_z}
 use mir.Val.{SFits}
 use Rattle.nxt_types.specs.Arithmetic.{compares}
 use Rattle.nxt_model.specs.Means.Effects.{element}
 use Rattle.nxt_model.specs.Means.Numbers.{signed_kind, either_signed}
 use Rattle.nxt_space.specs.Variables.{shape_of, value_of}
-use Rattle.nxt_ops.specs.Ops.{deciding_numbers}
 use Rattle.nxt_ops.proofs.DecidingNumbers.{lists_held}
 use Rattle.nxt_operands.proofs.Laws.NumberLists.{alike_numbers, variable_numbers}
 use Rattle.nxt_facts.proofs.Either.{first_holds, second_tells}
 use Rattle.nxt_ops.proofs.comparing.holds.Goals.{then-has_signed_elements, else-has_signed_elements}
 use Rattle.nxt_ops.proofs.comparing.holds.Goals as goal
 
-pub numbers_of-requires-clause-list : goal.numbers_of-requires-clause-list
-numbers_of-requires-clause-list c =
+pub deciding_at-requires-clause-list_x : goal.deciding_at-requires-clause-list_x
+deciding_at-requires-clause-list_x c =
     let s = c.args.space.now.vars in
     variable_numbers s c.args.x c.requires.sound c.requires.x (alike_numbers (shape_of s c.args.x) (shape_of s c.args.y) c.requires.fit c.requires.list).0
 
-pub numbers_of-requires-2-clause-list : goal.numbers_of-requires-2-clause-list
-numbers_of-requires-2-clause-list c =
+pub deciding_at-requires-clause-list_y : goal.deciding_at-requires-clause-list_y
+deciding_at-requires-clause-list_y c =
     let s = c.args.space.now.vars in
     variable_numbers s c.args.y c.requires.sound c.requires.y (alike_numbers (shape_of s c.args.x) (shape_of s c.args.y) c.requires.fit c.requires.list).1
 
@@ -28,8 +27,9 @@ returns c =
     let s = c.args.space.now.vars in
     let x = value_of s c.args.x in
     let y = value_of s c.args.y in
-    let f0 : SFits w64 c.deciding-a.result.0 = search rules in
-    let f1 : SFits w64 c.deciding-a.result.1 = search rules in
+    let pair : ℤ × ℤ = (c.in_ok-a.a, c.in_ok-a.b) in
+    let f0 : SFits w64 pair.0 = search rules in
+    let f1 : SFits w64 pair.1 = search rules in
     let a = signed_kind (element (shape_of s c.args.x)) in
     let b = signed_kind (element (shape_of s c.args.y)) in
     let either = c.if-has_signed_elements.signed in
@@ -66,9 +66,8 @@ returns c =
     x
     y
     either
-    c.deciding-a.result
+    pair
     c.requires.fit
     c.requires.list
     signed
-    (c.deciding-a.ensures
-    ∙ ap₂ (deciding_numbers either) (c.as_slice.ensures ∙ c.in_ok-xs.ensures) (c.as_slice-2.ensures ∙ c.in_ok-ys.ensures))
+    c.in_ok-a.ensures

@@ -1,7 +1,36 @@
 -- A value is stored by its flat form, whose lists are those of a part of the variables.
-use Rattle.nxt_space.specs.Variables.{value_of}
+use Rattle.std.proofs.Common.{Ok, sym, subst}
+use Rattle.nxt_space.specs.Outcomes.{Does}
+use Rattle.nxt_space.specs.Variables.{value_of, with_value}
+use Rattle.nxt_space.specs.declared.fault.OpFault.TheVariants.{PoolPassed}
+use Rattle.nxt_operands.specs.Operands.{Done}
+use Rattle.nxt_operands.proofs.Laws.InPlace.{list_stored}
+use Rattle.nxt_operands.proofs.Laws.Refusals.{passed_on}
 use Rattle.nxt_operands.proofs.Laws.Stored.{copy_storable, spelled_stored}
 use Rattle.nxt_ops.proofs.run.copy.Goals as goal
+
+-- a list of the same kind is stored as it is
+pub returns-in_err-copy_list : goal.returns-in_err-copy_list
+returns-in_err-copy_list c =
+    let s = c.args.space.now in
+    let is = c.in-Some.ensures in
+    let same = list_stored s.vars c.args.dest c.args.source c.in-Some.to c.in-Some.from c.requires.sound is.0 is.1 is.2 in
+    subst
+    (λ v. Does Done (with_value s.vars c.args.dest v) s c.from_residual.result c.copy_list.new.self)
+    (sym same)
+    (passed_on Done Done (with_value s.vars c.args.dest (value_of s.vars c.args.source)) s c.copy_list.new.self (PoolPassed c.in_err-copy_list.field-0.0.0) c.from_residual.result c.from_residual.ensures.1
+    (c.in_err-copy_list.ensures c.args.dest c.args.source is.0 is.1))
+
+pub returns-in-Some : goal.returns-in-Some
+returns-in-Some c =
+    let s = c.args.space.now in
+    let is = c.in-Some.ensures in
+    let same = list_stored s.vars c.args.dest c.args.source c.in-Some.to c.in-Some.from c.requires.sound is.0 is.1 is.2 in
+    let done = c.in_ok-copy_list.ensures c.args.dest c.args.source is.0 is.1 in
+    subst
+    (λ v. Does {T = Unit {0}} Done (with_value s.vars c.args.dest v) s (Ok tt) c.copy_list.new.self)
+    (sym same)
+    (done.0, done.1, tt)
 
 pub store-requires-clause-countable : goal.store-requires-clause-countable
 store-requires-clause-countable c =

@@ -1,11 +1,11 @@
 -- The number that is found, or the default, is stored, and then the place.
-use Rattle.std.proofs.Common.{◌≡◌, ℕ, ◌+◌, ◌≤◌, ℤ, length, drop, ap, ap₂, ◌∙◌, subst, sym, arith, w64, to_z, of_z, to_z-of_z}
+use Rattle.std.proofs.Common.{◌≡◌, ℕ, ◌+◌, ◌≤◌, ℤ, drop, ap, ap₂, ◌∙◌, subst, sym, arith, w64, to_z, of_z, to_z-of_z}
 use Rattle.std.specs.Prelude.{pos, ◌+ℤ◌, option_map}
 use Rattle.std.specs.Option.{unwrap_or}
 use Rattle.std.proofs.lemmas.Int.{to_z_pos}
 use Rattle.nxt_types.specs.Pool.{pool_size}
 use Rattle.nxt_model.specs.Means.Effects.{word_or}
-use Rattle.nxt_model.specs.Means.Text.{body, number_at}
+use Rattle.nxt_model.specs.Means.Text.{number_at}
 use Rattle.nxt_model.specs.Values.{Num, stored}
 use Rattle.nxt_space.specs.Variables.{shape_of, with_value}
 use Rattle.nxt_operands.specs.Operands.{given_or_left}
@@ -22,22 +22,17 @@ returns c d =
     let default = given_or_left s c.args.default in
     let found = c.unwrap_or-found.result in
     let place = c.word_or-at.result in
-    let rest : c.behind.result.now ≡ drop at (body_at s c.args.source) =
-    c.behind.ensures.bytes
-    ∙ ap₂ drop c.word_or-at.ensures (c.body.ensures.body ∙ ap body (c.as_slice.ensures ∙ c.in_ok-text.ensures.bytes))
-    in
     let read : found ≡ unwrap_or (option_map numeral (number_at (drop at (body_at s c.args.source)))) (default_numeral default) =
     c.unwrap_or-found.ensures
-    ∙ ap₂ {B = ℕ} (λ o n. unwrap_or o (record { word = n; length = 0 })) (c.numeral_at.ensures.numeral ∙ ap numeral_at rest) c.word_or.ensures
-    in
-    let fits : length c.behind.result.now ≤ pool_size =
-    omega (arith, c.behind.ensures.within, c.body.ensures.within, ap length c.as_slice.ensures, c.in_ok-text.ensures.few)
+    ∙ ap₂ {B = ℕ} (λ o n. unwrap_or o (record { word = n; length = 0 }))
+    (c.in_ok-numeral_in.ensures.numeral ∙ ap (λ n. numeral_at (drop n (body_at s c.args.source))) c.word_or-at.ensures)
+    c.word_or.ensures
     in
     let short : found.length ≤ pool_size =
     subst
     (λ (n : Numeral). n.length ≤ pool_size)
     (sym c.unwrap_or-found.ensures)
-    (found_short c.numeral_at.result (record { word = c.word_or.result; length = 0 }) (length c.behind.result.now) pool_size c.numeral_at.ensures.within fits (omega arith))
+    (found_short c.in_ok-numeral_in.field-0 (record { word = c.word_or.result; length = 0 }) pool_size c.in_ok-numeral_in.ensures.within (omega arith))
     in
     let word : to_z w64 (of_z w64 c.from.result) ≡ pos found.word = to_z-of_z {w = w64} {z = c.from.result} (record { sfits = c.from.type_inv }) ∙ c.from.ensures in
     let behind : to_z w64 (of_z w64 (to_z w64 (of_z w64 c.from-2.result) +ℤ to_z w64 found.length)) ≡ pos (place + found.length) =

@@ -1,6 +1,7 @@
 -- The bodies and a zero take one block, which is asked for before they are put together.
-use Rattle.std.proofs.Common.{◌≡◌, ℕ, ◌+◌, List, map, length, sym, ap, ◌∙◌, subst, arith}
+use Rattle.std.proofs.Common.{◌≡◌, ℕ, ◌+◌, ◌++◌, ◌∷◌, [], append_assoc, List, map, length, sym, ap, ◌∙◌, subst, arith}
 use Rattle.std.specs.List.{flat_map}
+use Rattle.std.proofs.lemmas.List.Concat.{flat_map-cons}
 use Rattle.std.proofs.lemmas.List.{length_push}
 use Rattle.std.proofs.lemmas.List.Folds.{flat_map-map}
 use Rattle.nxt_model.specs.Means.Strings.{text_of}
@@ -10,7 +11,8 @@ use Rattle.nxt_space.specs.Variables.{Variables, shape_of, with_value}
 use Rattle.nxt_operands.specs.Operands.{Done, given}
 use Rattle.nxt_operands.proofs.Laws.OneStored.{given_stored}
 use Rattle.nxt_operands.proofs.Laws.Refusals.{passed_on}
-use Rattle.nxt_texts.specs.Texts.{StoresBytes, bodies_at}
+use Rattle.nxt_texts.specs.Texts.{StoresBytes, bodies_at, body_at}
+use Rattle.nxt_texts.proofs.InPlace.{spot_kind}
 use Rattle.nxt_texts.proofs.Texts.{stride_there, bytes_countable, bytes_size}
 use Rattle.nxt_texts.proofs.strings.concatenate.Goals as goal
 
@@ -40,6 +42,22 @@ returns-in_err-check_room c d =
     (given_stored c.args.space.now c.args.space.now c.args.dest (byte_list (ended bytes)) passed.result
     (passed_on Done Done (with_value s c.args.dest w) c.args.space.now c.args.space.now c.in_err-check_room.field-0.0 passed.result passed.ensures.1 (c.in_err-check_room.ensures.refused w size)))
     d
+
+pub add_bodies-requires-clause-text : goal.add_bodies-requires-clause-text
+add_bodies-requires-clause-text c = spot_kind c.args.space.now.vars c.args.dest c.in-Some.list c.in-Some.ensures.0 c.requires.text
+
+pub returns-in-Some : goal.returns-in-Some
+returns-in-Some c =
+    let s = c.args.space.now.vars in
+    let others = c.in-Some.others.now in
+    let own = body_at s c.args.dest in
+    let all : own ++ ended (bodies_at s others) ≡ ended (bodies_at s c.args.sources.now) =
+    sym (append_assoc own (bodies_at s others) (0 ∷ []))
+    ∙ ap ended (sym (flat_map-cons (body_at s) c.args.dest others) ∙ ap (bodies_at s) (sym c.in-Some.ensures.1)) in
+    subst
+    (λ bs. StoresBytes c.args.space.now c.args.dest bs c.add_bodies.result c.add_bodies.new.space)
+    (all ∙ same_bodies s c.args.sources.now)
+    (c.add_bodies.ensures c.args.dest c.in-Some.ensures.0)
 
 pub returns : goal.returns
 returns c =

@@ -1,6 +1,5 @@
 -- The body of the text is stored.
-use Rattle.std.proofs.Common.{ap, ◌∙◌, subst}
-use Rattle.nxt_model.specs.Means.Text.{body}
+use Rattle.std.proofs.Common.{◌∙◌, subst}
 use Rattle.nxt_texts.specs.Texts.{StoresBytes}
 use Rattle.nxt_texts.proofs.strings.string_to_array.Goals as goal
 
@@ -8,5 +7,5 @@ pub returns : goal.returns
 returns c =
     subst
     (λ bs. StoresBytes c.args.space.now c.args.dest bs c.store_bytes.result c.store_bytes.new.space)
-    (c.body.ensures.body ∙ ap body (c.as_slice.ensures ∙ c.in_ok-text.ensures.bytes))
+    (c.as_slice.ensures ∙ c.in_ok-bytes.ensures.body)
     c.store_bytes.ensures

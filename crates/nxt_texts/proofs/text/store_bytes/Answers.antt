@@ -1,15 +1,23 @@
--- The list takes one block, and the entry's stride is small.
-use Rattle.nxt_model.specs.Values.{byte_list}
-use Rattle.nxt_operands.proofs.Laws.OneStored.{spelled_given}
-use Rattle.nxt_texts.proofs.Texts.{bytes_storable}
+-- In place the bytes become the list, or are refused.
+use Rattle.nxt_space.proofs.Laws.InBytes.{text_numbers}
+use Rattle.nxt_space.specs.Spots.{numbers_in_bytes}
+use Rattle.nxt_texts.proofs.InPlace.{bytes_refused, bytes_set, spot_kind}
 use Rattle.nxt_texts.proofs.text.store_bytes.Goals as goal
 
-pub store-requires-clause-countable : goal.store-requires-clause-countable
-store-requires-clause-countable c =
-    (bytes_storable c.args.space.now.vars c.args.dest c.args.bytes.now c.in_ok-flat.flat c.requires.sound c.requires.named c.requires.text c.requires.few c.in_ok-flat.ensures).countable
-
-pub returns : goal.returns
-returns c d =
+pub returns-in_err-set_list : goal.returns-in_err-set_list
+returns-in_err-set_list c =
     let s = c.args.space.now.vars in
-    let e = bytes_storable s c.args.dest c.args.bytes.now c.in_ok-flat.flat c.requires.sound c.requires.named c.requires.text c.requires.few c.in_ok-flat.ensures in
-    spelled_given c.args.space.now c.store.new.space c.args.dest (byte_list c.args.bytes.now) c.in_ok-flat.flat c.store.result e c.store.ensures d
+    let list = c.in-Some.list in
+    let bs = c.args.bytes.now in
+    let is = c.in-Some.ensures.found in
+    let same = text_numbers list.kind bs (spot_kind s c.args.dest list is c.requires.text) in
+    bytes_refused c.args.space.now c.set_list.new.self c.args.dest list bs (numbers_in_bytes list.kind bs) c.from_residual.result is c.requires.text same c.from_residual.ensures.1 (c.in_err-set_list.ensures c.args.dest is)
+
+pub returns-in-Some : goal.returns-in-Some
+returns-in-Some c =
+    let s = c.args.space.now.vars in
+    let list = c.in-Some.list in
+    let bs = c.args.bytes.now in
+    let is = c.in-Some.ensures.found in
+    let same = text_numbers list.kind bs (spot_kind s c.args.dest list is c.requires.text) in
+    bytes_set c.args.space.now c.set_list.new.self c.args.dest list bs (numbers_in_bytes list.kind bs) is c.requires.text same (c.in_ok-set_list.ensures c.args.dest is)

@@ -1,0 +1,5 @@
+//! Tests of the variables in the pool.
+#![tactic(auto)]
+
+#[cfg(test)]
+mod space;
