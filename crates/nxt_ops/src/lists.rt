@@ -85,8 +85,8 @@ pub fn map_list(
     store(space, dest, &flat)
 }
 
-// Whether the elements of one of two values, or it itself, are numbers of a signed kind.
-fn either_has_signed_elements(space: &Space, x: u16, y: u16) -> bool
+/// Whether the elements of one of two values, or it itself, are numbers of a signed kind.
+pub fn either_has_signed_elements(space: &Space, x: u16, y: u16) -> bool
     ensures { result ≡ either_signed (element (shape_of space.now.vars x)) (element (shape_of space.now.vars y)) }
 {
     has_signed_elements(space, x) || has_signed_elements(space, y)
