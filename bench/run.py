@@ -11,12 +11,15 @@ import tempfile
 import time
 
 
-def image(entries, static_size, defaults, words):
-    """An image with one clump and these table entries, static defaults and code words."""
+def image(entries, static_size, defaults, words, rows=(), lists=b""):
+    """An image with one clump and these table entries, static defaults, code words, rows of the table of rows, and lists."""
+    data = bytes(defaults) + b"".join(struct.pack("<5H", *row, 0, 0) for row in rows) + lists
+    dynamic = len(data) - len(defaults)
+    at, dope = (len(defaults), static_size) if rows else (0, 0)
     head = b"MindstormsNXT\0\0\5" + struct.pack(
-        "<11H", len(entries), static_size, static_size, len(defaults), 0, 0, 0, 0, 0, 1, len(words)
+        "<11H", len(entries), static_size + dynamic, static_size, len(data), at, dynamic, 0, 0, dope, 1, len(words)
     )
-    front = head + b"".join(struct.pack("<BBH", *entry) for entry in entries) + bytes(defaults)
+    front = head + b"".join(struct.pack("<BBH", *entry) for entry in entries) + data
     pad = bytes(len(front) % 2)
     return front + pad + bytes(4) + struct.pack("<%dH" % len(words), *words)
 
@@ -37,6 +40,20 @@ ROUND = image(
     0,
     [],
     [word for i in range(HOPS) for word in (0x4025, {1: 0xFFFE, HOPS - 2: 2}.get(i, 0xFFFC if i % 2 else 4))],
+)
+# n slong, port ubyte 2: getin n, port, scaled value; jmp back
+SENSOR = image([(6, 1, 0), (1, 0, 4)], 5, [2], [0x8032, 0, 1, 4, 0x4025, 0xFFFC])
+# a cluster of one ulong: syscall GetStartTick; jmp back
+CALL = image([(8, 0, 1), (5, 1, 0)], 4, [], [0x6028, 25, 0, 0x4025, 0xFFFD])
+# write is a cluster of three: a result, a mailbox and a text of 20 letters; read one of four: a result, a mailbox, whether to
+# take the message out, which is 1, and a text: syscall MessageWrite; syscall MessageRead; jmp back
+MAIL = image(
+    [(8, 0, 3), (2, 1, 6), (1, 1, 7), (7, 0, 0), (1, 0, 0), (8, 0, 4), (2, 1, 8), (1, 1, 9), (1, 0, 10), (7, 1, 2), (1, 0, 0)],
+    12,
+    [1, 0, 1],
+    [0x6028, 26, 0, 0x6028, 27, 5, 0x4025, 0xFFFA],
+    [(12, 10, 2), (32, 1, 21)],
+    b"a message of 20 lett\0",
 )
 SCRIPT = b"run,1000000\n" * 4
 
@@ -60,6 +77,9 @@ def main():
     run(nxt, "jump", JUMP)
     run(nxt, "loop", LOOP)
     run(nxt, "round", ROUND)
+    run(nxt, "sensor", SENSOR)
+    run(nxt, "call", CALL)
+    run(nxt, "mail", MAIL)
 
 
 main()

@@ -17,7 +17,7 @@ enum Command {
     Check,
 }
 
-const EXAMPLES: [(&str, Command); 14] = [
+const EXAMPLES: [(&str, Command); 15] = [
     ("motor", Command::Run),
     ("rising", Command::Run),
     ("average", Command::Run),
@@ -25,6 +25,7 @@ const EXAMPLES: [(&str, Command); 14] = [
     ("fills", Command::Run),
     ("shared_motor", Command::Run),
     ("median", Command::Run),
+    ("night_watch", Command::Run),
     ("lost_jump", Command::Run),
     ("motor", Command::Check),
     ("average", Command::Check),

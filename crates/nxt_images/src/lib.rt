@@ -1,9 +1,10 @@
 //! Programs told plainly, and the files that they are: what the tests build their files with.
 #![tactic(auto)]
 
-ghost use Rattle.std.specs.Prelude.{◌≡◌, ◌<◌, ◌^◌, length, IfOk, IsTrue};
-ghost use Rattle.nxt_rxe.specs.Files.{HasCounts, HasDynamic, dependent_count};
-ghost use Rattle.nxt_rxe.specs.declared.parts.Parts.{Parts};
+ghost use Rattle.std.specs.Prelude.{◌≡◌, ◌<◌, ◌^◌, ◌++◌, flat_map, length, IfOk, IsTrue, OnOk};
+ghost use Rattle.nxt_types.specs.Statements.{long_form_of};
+ghost use Rattle.nxt_rxe.specs.Files.{HasCounts, HasDynamic, IsFile, dependent_count};
+ghost use Rattle.nxt_rxe.specs.declared.parts.Parts.{Parts as FileParts};
 ghost use Rattle.nxt_layout.specs.Layouts.{IsLayout};
 
 use nxt_instr::encode;
@@ -80,7 +81,9 @@ pub const EMPTY: Image<'static> = Image {
 };
 
 /// Adds the words of a statement.
-pub fn append(words: &mut Words, statement: &Statement) -> Result<(), Fail> {
+pub fn append(words: &mut Words, statement: &Statement) -> Result<(), Fail>
+    ensures { OnOk result (words.new ≡ words.old ++ long_form_of statement.now.0 statement.now.1 statement.now.2.now) }
+{
     let (op, cmp, operands) = *statement;
     if !op.has_comparison() && cmp != Cmp::Lt {
         return Err("it compares nothing".into());
@@ -93,7 +96,9 @@ pub fn append(words: &mut Words, statement: &Statement) -> Result<(), Fail> {
 }
 
 /// The words of statements, one behind another.
-pub fn words_of(alloc: Global, statements: &[Statement]) -> Result<Words, Fail> {
+pub fn words_of(alloc: Global, statements: &[Statement]) -> Result<Words, Fail>
+    ensures { IfOk result (λ words. words ≡ flat_map (λ s. long_form_of s.0 s.1 s.2.now) statements.now) }
+{
     let mut words = Words::new(alloc);
     for statement in statements {
         append(&mut words, statement)?;
@@ -228,14 +233,16 @@ pub fn parts_of(alloc: Global, image: &Image) -> Result<Parts, Fail>
 }
 
 /// A program's file.
-pub fn file_of(alloc: Global, image: &Image) -> Result<Bytes, Fail> {
+pub fn file_of(alloc: Global, image: &Image) -> Result<Bytes, Fail>
+    ensures { IfOk result (λ file. (p : FileParts) × IsFile file p) }
+{
     let parts = parts_of(alloc, image)?;
     Ok(write_rxe(alloc, &parts)?)
 }
 
 /// The layout of a program that is accepted.
 pub fn layout_of(alloc: Global, image: &Image) -> Result<Layout, Fail>
-    ensures { IfOk result (λ layout. (p : Parts) × IsLayout p layout) }
+    ensures { IfOk result (λ layout. (p : FileParts) × IsLayout p layout) }
 {
     let file = file_of(alloc, image)?;
     let parts = read_rxe(alloc, file.as_slice())?;

@@ -10,7 +10,8 @@ use Rattle.nxt_model.specs.Means.Arrays.{overwritten}
 use Rattle.nxt_model.specs.Values.{Value, Num, elements, number, stored}
 use Rattle.nxt_values.specs.Writes.{bytes_of_number}
 use Rattle.nxt_space.specs.Spots.{numbers_in_bytes}
-use Rattle.nxt_space.proofs.Laws.InBytes.{numbers_counted, numbers_between, numbers_joined, numbers_stored, one_number, number_bytes}
+use Rattle.nxt_space.proofs.Laws.InBytes.{numbers_counted, numbers_stored, one_number, number_bytes}
+use Rattle.nxt_space.proofs.Laws.JoinedBytes.{numbers_between, numbers_joined}
 use Rattle.nxt_space.proofs.Laws.Words.{stored_word}
 use Rattle.nxt_lists.specs.InBytes.{AreStored}
 use Rattle.nxt_lists.proofs.Between.{overwritten_between}

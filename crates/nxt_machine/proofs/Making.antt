@@ -2,8 +2,6 @@
 
 -- How many statements code has.
 pub mod Counts
--- Decoded statements run today where those of the words do.
-pub mod Built
 -- A statement that is made ready stands for that of the words.
 pub mod Readied
 -- What the rules of accepted code say of its clumps and operands.

@@ -4,5 +4,7 @@
 pub mod Programs
 -- What a statement does, clumps aside, and what it does to clumps.
 pub mod Statements
--- The statements on numbers of a turn.
+-- The statements of a turn that were made ready.
 pub mod Turns
+-- Ports that an operand names, as they are kept.
+pub mod Ports

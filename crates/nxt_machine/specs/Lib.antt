@@ -1,4 +1,3 @@
-pub mod RunsToday
 pub mod Numbers
 pub mod Machines
 pub mod Inside

@@ -1,15 +1,16 @@
--- The numbers that operands name, and what stops and motors make of them.
-use Rattle.std.specs.Prelude.{ℕ, Bool, if◌then◌else◌, nat_lt, ◌==◌, List, [], ◌∷◌, ℤ, slice_index_or, slice_set}
-use Rattle.nxt_types.specs.Arithmetic.{word}
+-- The numbers and ports that operands name, and what stops and motors make of them.
+use Rattle.std.specs.Prelude.{ℕ, Bool, ◌==◌, List, [], ◌∷◌, ℤ, filter}
+use Rattle.std.specs.List.{list_any}
 use Rattle.nxt_types.specs.Names.{named}
 use Rattle.nxt_types.specs.declared.opcodes.Class.TheVariants.{OptionalRead}
 use Rattle.nxt_model.specs.Values.{number}
 use Rattle.nxt_model.specs.Variables.{part_of, refers, read}
-use Rattle.nxt_model.specs.Devices.{set_property, update_flags, updated, motor_line}
-use Rattle.nxt_model.specs.declared.line.Line.{Line}
+use Rattle.nxt_model.specs.Devices.{Devices, Change, each_port, motor_at, with_motor, set_property}
 use Rattle.nxt_model.specs.Means.Effects.{value_of}
+use Rattle.nxt_model.specs.Means.Ports.{commit_if_flagged, named_ports}
 use Rattle.nxt_model.specs.Step.{stops_at}
 use Rattle.nxt_space.specs.Variables.{Variables}
+use Rattle.nxt_operands.specs.Operands.{given}
 
 -- the number that a word names, or 0
 abbrev pub number_at : Variables → ℕ → ℤ
@@ -27,20 +28,18 @@ with_pairs s [] motor = motor
 with_pairs s (p ∷ []) motor = motor
 with_pairs s (p ∷ v ∷ more) motor = with_pairs s more (set_property p (number_at s v) motor)
 
--- a motor with its flags taken over, and the line that tells it
-abbrev pub committed : List ℤ → List ℤ
-committed motor = if update_flags motor == 0 then motor else updated motor
+-- the change of a port's motor by such words, which takes them over where its flags say so
+abbrev pub set_motor_by : Variables → List ℕ → ℕ → Devices → Change
+set_motor_by s pairs port d = commit_if_flagged port (with_motor port (with_pairs s pairs (motor_at port d)) d)
 
-abbrev pub committed_line : ℕ → List ℤ → List Line
-committed_line port motor = if update_flags motor == 0 then [] else motor_line port motor ∷ []
+-- the ports that the operand names which begins at an entry
+abbrev pub ports_at : Variables → ℕ → List ℕ
+ports_at s i = named_ports (given s i)
 
--- the motors after pairs for the port that a number tells, and the lines
-abbrev pub motors_after : Variables → ℤ → List ℕ → List (List ℤ) → List (List ℤ)
-motors_after s n pairs motors =
-    let port = word n in
-    if nat_lt port 3 then slice_set motors port (committed (with_pairs s pairs (slice_index_or motors port []))) else motors
+-- whether a port is among them
+abbrev pub is_among : List ℕ → ℕ → Bool
+is_among ports p = list_any (λ n. n == p) ports
 
-abbrev pub lines_after : Variables → ℤ → List ℕ → List (List ℤ) → List Line
-lines_after s n pairs motors =
-    let port = word n in
-    if nat_lt port 3 then committed_line port (with_pairs s pairs (slice_index_or motors port [])) else []
+-- the change of the motors of those ports, one after another
+abbrev pub set_motors_by : Variables → List ℕ → List ℕ → Devices → Change
+set_motors_by s ports pairs d = each_port (filter (is_among ports) (0 ∷ 1 ∷ 2 ∷ [])) (set_motor_by s pairs) d

@@ -1,14 +1,13 @@
-//! The machine that runs a program: bytecodes and time, over variables, code, clumps and motors (LEGO MINDSTORMS NXT
+//! The machine that runs a program: bytecodes and time, over variables, code, clumps and devices (LEGO MINDSTORMS NXT
 //! Executable File Specification, "Virtual Machine").
 #![tactic(auto)]
 
 mod machine;
-mod motor;
 mod naming;
+mod ports;
 mod program;
 mod rules;
 mod statement;
 mod turn;
 
 pub use machine::Machine;
-pub use program::runs;

@@ -1,25 +1,28 @@
-// What a statement does to variables and motors.
+// What a statement does to variables and devices.
 
-ghost use Rattle.std.specs.Prelude.{◌≡◌, ◌+◌, ◌<◌, ◌≤◌, ◌^◌, ◌++◌, length, slice_get, drop, ℕ, ℤ, List, IfOk, OnOk, Some, true};
-ghost use Rattle.nxt_types.specs.Statements.{IsWhole, statement_of};
+ghost use Rattle.std.specs.Prelude.{◌≡◌, ◌≤◌, ◌^◌, slice_get, ℕ, List, IfOk, OnOk, Some, true, false};
+ghost use Rattle.nxt_types.specs.Statements.{statement_of};
 ghost use Rattle.nxt_ops.specs.Ops.{runs as does_compute};
 ghost use Rattle.nxt_arrays.specs.Arrays.{runs as works_on_lists};
+ghost use Rattle.nxt_types.specs.declared.instr.Op.TheVariants as op;
+ghost use Rattle.nxt_model.specs.Devices.{Devices};
+ghost use Rattle.nxt_model.specs.SystemCalls.{Clock as Moments};
 ghost use Rattle.nxt_model.specs.declared.line.Line.{Line};
-ghost use Rattle.nxt_machine.specs.Numbers.{number_at, with_pairs, motors_after, lines_after};
 ghost use Rattle.nxt_machine.specs.Inside.Programs.{IsProgram, image_in};
-ghost use Rattle.nxt_machine.specs.Inside.Statements.{Performs};
+ghost use Rattle.nxt_sys.specs.Calls.{clock_of};
+ghost use Rattle.nxt_machine.specs.Inside.Statements.{Performs, IsDone};
 
-use crate::motor::Motor;
-use crate::naming::number;
+use crate::ports::{get_input, get_output, set_input, set_output};
 use crate::program::Program;
 use nxt_arrays::run_array;
 use nxt_code::StatementAt;
-use nxt_model::line::{Line, Lines};
+use nxt_io::Io;
+use nxt_model::line::Lines;
 use nxt_ops::{Next, run_op};
-use nxt_space::{OpFault, Space};
+use nxt_space::OpFault;
+use nxt_sys::{Clock, syscall};
 use nxt_types::NoMemory;
-use nxt_types::instr::{Instr, Op, landing};
-use nxt_types::numbers::wrap;
+use nxt_types::instr::{Op, landing};
 use std::alloc::Global;
 
 /// What a statement did, its clump aside.
@@ -35,43 +38,108 @@ pub(crate) enum Did {
 pub(crate) fn perform(
     alloc: Global,
     program: &mut Program,
-    motors: &mut [Motor],
-    clock: u64,
+    io: &mut Io,
+    clock: Clock,
     place: u32,
     placed: StatementAt,
     out: &mut Lines,
 ) -> Result<Did, NoMemory>
     requires program { IsProgram program.old }
-    requires three { length motors.old ≡ 3 }
-    requires clock { clock ≤ 2 ^ 62 }
+    requires clock { clock.now ≤ 2 ^ 62 }
     requires at { slice_get program.old.code.decoded.placed.items place ≡ Some placed }
-    ensures did { IfOk result (Performs program.old.code.words place placed.word clock (statement_of placed.instr program.old.code.words)
-        (record { vars = program.old.space.vars; motors = motors.old; lines = out.old.lines })
-        (record { vars = program.new.space.vars; motors = motors.new; lines = out.new.lines })) }
+    ensures did { IfOk result (Performs program.old.code.words place placed.word (clock_of clock) (statement_of placed.instr program.old.code.words)
+        (record { vars = program.old.space.vars; devices = io.old; lines = out.old.lines })
+        (record { vars = program.new.space.vars; devices = io.new; lines = out.new.lines })) }
     ensures program { IsProgram program.new }
     ensures image { image_in program.new ≡ image_in program.old }
-    ensures three { length motors.new ≡ 3 }
+    ensures code { program.new.code ≡ program.old.code }
+{
+    match placed.instr.op {
+        op if nxt_ops::runs(op) => compute(alloc, program, place, placed),
+        op if nxt_arrays::runs(op) => arrange(alloc, program, place, placed),
+        Op::Syscall => call(alloc, program, io, clock, place, placed, out),
+        _ => {
+            act(alloc, program, io, clock, placed, out)?;
+            Ok(Did::Next(place + 1))
+        }
+    }
+}
+
+// Runs a statement on motors, sensors or the clock. One of clumps does nothing to them.
+fn act(
+    alloc: Global,
+    program: &mut Program,
+    io: &mut Io,
+    clock: Clock,
+    placed: StatementAt,
+    out: &mut Lines,
+) -> Result<(), NoMemory>
+    requires program { IsProgram program.old }
+    requires clock { clock.now ≤ 2 ^ 62 }
+    requires at { (k : ℕ) × slice_get program.old.code.decoded.placed.items k ≡ Some placed }
+    requires computing { does_compute placed.instr.op ≡ false }
+    requires on_lists { works_on_lists placed.instr.op ≡ false }
+    requires syscall { placed.instr.op ≡ op.Syscall → ⊥ }
+    ensures done { OnOk result (IsDone (clock_of clock) (statement_of placed.instr program.old.code.words)
+        (record { vars = program.old.space.vars; devices = io.old; lines = out.old.lines })
+        (record { vars = program.new.space.vars; devices = io.new; lines = out.new.lines })) }
+    ensures program { IsProgram program.new }
+    ensures image { image_in program.new ≡ image_in program.old }
     ensures code { program.new.code ≡ program.old.code }
 {
     program.space.is_sound();
-    match placed.instr.op {
+    let instr = &placed.instr;
+    match instr.op {
         Op::Setout => {
-            set_output(
-                &program.space,
-                motors,
-                &placed.instr,
-                program.code.words(),
-                out,
-            )?;
-            Ok(Did::Next(place + 1))
+            let words = program.code.words();
+            set_output(alloc, &program.space, io, instr, words, out)
+        }
+        Op::Setin => {
+            set_input(&program.space, io, instr);
+            Ok(())
+        }
+        Op::Getin => {
+            get_input(&mut program.space, io, instr);
+            Ok(())
+        }
+        Op::Getout => {
+            get_output(&mut program.space, io, instr);
+            Ok(())
         }
         Op::Gettick => {
-            program.space.set(placed.instr.a, clock as i64);
-            Ok(Did::Next(place + 1))
+            program.space.set(instr.a, clock.now as i64);
+            Ok(())
         }
-        op if nxt_ops::runs(op) => compute(alloc, program, place, placed),
-        op if nxt_arrays::runs(op) => arrange(alloc, program, place, placed),
-        _ => Ok(Did::Next(place + 1)),
+        _ => Ok(()),
+    }
+}
+
+// Runs a system call.
+fn call(
+    alloc: Global,
+    program: &mut Program,
+    io: &mut Io,
+    clock: Clock,
+    place: u32,
+    placed: StatementAt,
+    out: &mut Lines,
+) -> Result<Did, NoMemory>
+    requires program { IsProgram program.old }
+    requires call { placed.instr.op ≡ op.Syscall }
+    requires at { slice_get program.old.code.decoded.placed.items place ≡ Some placed }
+    ensures did { IfOk result (Performs program.old.code.words place placed.word (clock_of clock) (statement_of placed.instr program.old.code.words)
+        (record { vars = program.old.space.vars; devices = io.old; lines = out.old.lines })
+        (record { vars = program.new.space.vars; devices = io.new; lines = out.new.lines })) }
+    ensures program { IsProgram program.new }
+    ensures image { image_in program.new ≡ image_in program.old }
+    ensures code { program.new.code ≡ program.old.code }
+{
+    program.space.is_sound();
+    let (number, cluster) = (placed.instr.a, placed.instr.b);
+    match syscall(alloc, number, cluster, &mut program.space, io, clock, out) {
+        Ok(_) => Ok(Did::Next(place + 1)),
+        Err(OpFault::PoolPassed(bytes)) => Ok(Did::Passed(bytes)),
+        Err(OpFault::NoMemory) => Err(NoMemory),
     }
 }
 
@@ -85,8 +153,8 @@ fn compute(
     requires program { IsProgram program.old }
     requires computes { does_compute placed.instr.op ≡ true }
     requires at { slice_get program.old.code.decoded.placed.items place ≡ Some placed }
-    ensures did { IfOk result (λ did. (motors : List (List ℤ)) (lines : List Line) (clock : ℕ) → Performs program.old.code.words place placed.word clock (statement_of placed.instr program.old.code.words)
-        (record { vars = program.old.space.vars; motors = motors; lines = lines }) (record { vars = program.new.space.vars; motors = motors; lines = lines }) did) }
+    ensures did { IfOk result (λ did. (d : Devices) (lines : List Line) (t : Moments) → Performs program.old.code.words place placed.word t (statement_of placed.instr program.old.code.words)
+        (record { vars = program.old.space.vars; devices = d; lines = lines }) (record { vars = program.new.space.vars; devices = d; lines = lines }) did) }
     ensures program { IsProgram program.new }
     ensures image { image_in program.new ≡ image_in program.old }
     ensures code { program.new.code ≡ program.old.code }
@@ -113,8 +181,8 @@ fn arrange(
     requires program { IsProgram program.old }
     requires on_lists { works_on_lists placed.instr.op ≡ true }
     requires at { slice_get program.old.code.decoded.placed.items place ≡ Some placed }
-    ensures did { IfOk result (λ did. (motors : List (List ℤ)) (lines : List Line) (clock : ℕ) → Performs program.old.code.words place placed.word clock (statement_of placed.instr program.old.code.words)
-        (record { vars = program.old.space.vars; motors = motors; lines = lines }) (record { vars = program.new.space.vars; motors = motors; lines = lines }) did) }
+    ensures did { IfOk result (λ did. (d : Devices) (lines : List Line) (t : Moments) → Performs program.old.code.words place placed.word t (statement_of placed.instr program.old.code.words)
+        (record { vars = program.old.space.vars; devices = d; lines = lines }) (record { vars = program.new.space.vars; devices = d; lines = lines }) did) }
     ensures program { IsProgram program.new }
     ensures image { image_in program.new ≡ image_in program.old }
     ensures code { program.new.code ≡ program.old.code }
@@ -130,47 +198,5 @@ fn arrange(
         Ok(()) => Ok(Did::Next(place + 1)),
         Err(OpFault::PoolPassed(bytes)) => Ok(Did::Passed(bytes)),
         Err(OpFault::NoMemory) => Err(NoMemory),
-    }
-}
-
-// Stores numbers in the properties of a motor, as the pairs of a statement tell.
-fn store_pairs(space: &Space, instr: &Instr, words: &[u16], motor: &mut Motor)
-    requires { IsWhole words.now instr.now }
-    ensures { motor.new ≡ with_pairs space.now.vars (drop 1 (statement_of instr.now words.now).args) motor.old }
-{
-    let count = instr.operand_count(words);
-    let mut k = 1;
-    while k + 1 < count {
-        motor.set_property(
-            instr.operand(words, k),
-            number(space, instr.operand(words, k + 1)),
-        );
-        k += 2;
-    }
-}
-
-// Sets the motor whose port the first operand holds, and commits it.
-fn set_output(
-    space: &Space,
-    motors: &mut [Motor],
-    instr: &Instr,
-    words: &[u16],
-    out: &mut Lines,
-) -> Result<(), NoMemory>
-    requires whole { IsWhole words.now instr.now }
-    requires three { length motors.old ≡ 3 }
-    ensures motors { OnOk result (motors.new ≡ motors_after space.now.vars (number_at space.now.vars instr.now.a) (drop 1 (statement_of instr.now words.now).args) motors.old) }
-    ensures lines { OnOk result (out.new.lines ≡ out.old.lines ++ lines_after space.now.vars (number_at space.now.vars instr.now.a) (drop 1 (statement_of instr.now words.now).args) motors.old) }
-    ensures three { length motors.new ≡ 3 }
-{
-    let port = wrap(number(space, instr.a));
-    if port >= 3 {
-        return Ok(());
-    }
-    let motor = &mut motors[port as usize];
-    store_pairs(space, instr, words, motor);
-    match motor.commit(port as u8) {
-        Some(line) => out.push(line),
-        None => Ok(()),
     }
 }

@@ -2,8 +2,8 @@
 
 -- Two programs whose statements do the same run alike.
 pub mod Alike
--- A program of one clump: a statement that is no matter of clumps changes values, devices and the place alone.
-pub mod OneClump
+-- Statements that are no matter of clumps.
+pub mod PlainStatements
 -- A pool reads as at most one list of values.
 pub mod Reading
 -- Laws of runs and reports.

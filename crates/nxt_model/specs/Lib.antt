@@ -10,6 +10,7 @@ pub mod Image
 pub mod TextProgram
 pub mod Assembled
 pub mod DirectCommands
+pub mod Messages
 pub mod Step
 pub mod LineText
 pub mod LineList

@@ -1,7 +1,9 @@
 // Lists of numbers that stand in their place, one number behind another.
 
-ghost use Rattle.std.specs.Prelude.{◌≡◌, ◌<◌, ◌≤◌, length, take, ◌++◌, ◌∷◌, [], ℕ, pos, slice_index_or, slice_set, IfSome, OnOk, Ok};
+ghost use Rattle.std.specs.Prelude.{◌≡◌, ◌<◌, ◌≤◌, length, take, ◌++◌, ◌∷◌, [], ℕ, pos, slice_index_or, slice_set, IfSome, None, OnOk, Ok};
 ghost use Rattle.std.specs.Int.{from_le_bytes};
+ghost use Rattle.nxt_types.specs.Shapes.{Array, Number};
+ghost use Rattle.nxt_types.specs.declared.kind.Kind.{Kind};
 ghost use Rattle.nxt_types.specs.Arithmetic.{leaf_size as size_of_leaf, width_of, word};
 ghost use Rattle.nxt_model.specs.Values.{Num, elements, list_of, number, stored};
 ghost use Rattle.nxt_space.specs.Outcomes.{Does};
@@ -17,7 +19,8 @@ use nxt_types::{Bytes, NoMemory};
 
 /// The spots of two lists, where both are lists of numbers of one kind that stand one behind another.
 pub fn lists_of_a_kind(space: &Space, x: u16, y: u16) -> Option<(ListSpot, ListSpot)>
-    ensures { IfSome result (λ p. IsListSpot space.now.vars x p.0 × IsListSpot space.now.vars y p.1 × (p.1.kind ≡ p.0.kind)) }
+    ensures found { IfSome result (λ p. IsListSpot space.now.vars x p.0 × IsListSpot space.now.vars y p.1 × (p.1.kind ≡ p.0.kind)) }
+    ensures none { result ≡ None → (k : Kind) → shape_of space.now.vars x ≡ Array (size_of_leaf k) (Number k) → shape_of space.now.vars y ≡ Array (size_of_leaf k) (Number k) → ⊥ }
 {
     let x = space.list_spot(x)?;
     let y = space.list_spot(y)?;

@@ -22,7 +22,8 @@ use Rattle.nxt_ops.specs.declared.operator.One.TheVariants.{Neg, Not, Test}
 use Rattle.nxt_ops.specs.Ops.{word_of_two, word_of_one, value_of_two, value_of_one}
 use Rattle.nxt_ops.specs.Elements.{numbers_by, pairs_of}
 use Rattle.nxt_ops.specs.Passes.{words_of, list_of_words, list_of_pairs, two_words, one_words, words_before, words_behind}
-use Rattle.nxt_ops.proofs.DecidingInPlace.{word_twice, word_taken}
+use Rattle.nxt_space.proofs.Laws.Words.{word_twice}
+use Rattle.nxt_ops.proofs.DecidingInPlace.{word_taken}
 use Rattle.nxt_ops.proofs.Words.{two_words as two_listed}
 
 -- ---- one place

@@ -1,11 +1,12 @@
 -- The two numbers that decide a comparison of lists that are read place by place.
-use Rattle.std.proofs.Common.{◌≡◌, ℕ, suc, ◌+◌, ◌-◌, ◌<◌, min, Bool, true, false, List, [], ◌∷◌, length, drop, get_or, pos, negsuc, inl, inr, refl, sym, ap, ap₂, ◌∙◌, arith, length-drop}
+use Rattle.std.proofs.Common.{◌≡◌, ℕ, suc, ◌+◌, ◌-◌, ◌<◌, min, Bool, true, false, List, [], ◌∷◌, length, drop, get_or, pos, inl, inr, refl, sym, ap, ap₂, ◌∙◌, arith, length-drop}
 use Rattle.std.specs.Prelude.{ℤ, if◌then◌else◌}
 use Rattle.std.proofs.lemmas.Bool.{cases_lt}
 use Rattle.std.proofs.lemmas.Bool.Decides.{Decides-int_eq}
 use Rattle.std.proofs.lemmas.List.{drop_all, get_or-map}
 use Rattle.nxt_types.specs.Arithmetic.{signed, taken, word}
 use Rattle.nxt_model.specs.Values.{Value, Num, number, elements}
+use Rattle.nxt_space.proofs.Laws.Words.{word_twice}
 use Rattle.nxt_operands.specs.Numbers.{numbers_in}
 use Rattle.nxt_ops.specs.Ops.{deciding_numbers}
 
@@ -34,10 +35,6 @@ shorter_ends s xs ys n is =
           ap (λ zs. deciding_numbers s zs (drop n ys)) (drop_all n xs (omega (arith, is, more)))
           ∙ ap₂ (λ a b. (pos a, pos b)) (sym none) (length-drop n ys)
     ]
-
-pub word_twice : (x : ℤ) → word (pos (word x)) ≡ word x
-word_twice (pos n) = omega arith
-word_twice (negsuc n) = omega arith
 
 -- a number is taken by its word
 pub word_taken : (s : Bool) (x : ℤ) → taken s (pos (word x)) ≡ taken s x

@@ -14,3 +14,5 @@ pub mod NoBytes
 pub mod Words
 -- Numbers that stand in bytes one behind another.
 pub mod InBytes
+-- Lists of numbers whose bytes are joined and cut.
+pub mod JoinedBytes

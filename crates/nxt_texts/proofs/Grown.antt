@@ -17,7 +17,8 @@ use Rattle.nxt_space.specs.Variables.{Variables, SpaceViews, AreSound, footprint
 use Rattle.nxt_space.specs.declared.fault.OpFault.{OpFault}
 use Rattle.nxt_space.specs.declared.fault.OpFault.TheVariants.{PoolPassed}
 use Rattle.nxt_space.specs.declared.spots.ListSpot.{ListSpot}
-use Rattle.nxt_space.proofs.Laws.InBytes.{numbers_joined, single_bytes, text_numbers}
+use Rattle.nxt_space.proofs.Laws.InBytes.{single_bytes, text_numbers}
+use Rattle.nxt_space.proofs.Laws.JoinedBytes.{numbers_joined}
 use Rattle.nxt_space.proofs.Laws.Variables.{footprint_told, value_sizes}
 use Rattle.nxt_operands.specs.Operands.{stride_of}
 use Rattle.nxt_operands.proofs.Laws.InPlace.{list_is, list_named}

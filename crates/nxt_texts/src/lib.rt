@@ -11,3 +11,4 @@ mod text;
 pub use numerals::{number_to_string, string_to_number};
 pub use packing::{flatten, unflatten};
 pub use strings::{array_to_string, concatenate, string_to_array, substring};
+pub use text::{Text, body, store_bytes, text_of};

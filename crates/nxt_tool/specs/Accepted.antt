@@ -1,8 +1,7 @@
 -- Accepted files and refused ones.
-use Rattle.std.specs.Prelude.{◌≡◌, ℕ, List, [], ◌∷◌, map, codes, decimal, true, false}
+use Rattle.std.specs.Prelude.{◌≡◌, ℕ, List, [], ◌∷◌, map, codes, decimal}
 use Rattle.nxt_types.specs.Refusals.{IsRefusal, IsAccepted}
 use Rattle.nxt_types.specs.Shapes.{Members}
-use Rattle.nxt_types.specs.Statements.{statements}
 use Rattle.nxt_rxe.specs.declared.parts.Parts.{Parts}
 use Rattle.nxt_rxe.specs.Files.{IsFile, HasCounts}
 use Rattle.nxt_rxe.specs.FileRules as file_rules
@@ -15,9 +14,8 @@ use Rattle.nxt_code.specs.declared.code.Code.{Code as AcceptedCode}
 use Rattle.nxt_model.specs.Image.{Image}
 use Rattle.nxt_model.specs.Values.{Value}
 use Rattle.nxt_model.specs.LineText.{line_of}
-use Rattle.nxt_machine.specs.RunsToday.{are_built}
 use Rattle.nxt_tool.specs.declared.fault.Refusal.{Refusal}
-use Rattle.nxt_tool.specs.declared.fault.Refusal.TheVariants.{Sections, Layout, Code, Unbuilt}
+use Rattle.nxt_tool.specs.declared.fault.Refusal.TheVariants.{Sections, Layout, Code}
 use Rattle.nxt_tool.specs.declared.fault.AcceptFault.{AcceptFault}
 use Rattle.nxt_tool.specs.declared.fault.AcceptFault.TheVariants.{Refused, NoMemory}
 
@@ -47,13 +45,12 @@ image_of p ss vars =
       words = p.code;
     }
 
--- the parts break no rule, and this is the image of a program that runs
+-- the parts break no rule, and this is the image of their program
 pub record IsRun (p : Parts) (image : Image) : Type 0 where
   pub shapes : Members
   pub sound : BreaksNone p shapes
   pub vars : Value
   pub starts : StartsAs p shapes vars
-  pub runs : are_built shapes (statements p.code) ≡ true
   pub image_is : image ≡ image_of p shapes vars
 
 -- the bytes are a file with this image
@@ -84,40 +81,25 @@ IsSoundFile bytes size = (p : Parts) × IsFile bytes p × IsSound p size
 
 -- ---- refused files
 
--- the first broken rule of the table and the data, or else of the clumps and the code; or the image doesn't run yet
+-- the first broken rule of the table and the data, or else of the clumps and the code
 abbrev pub RefusesParts : Parts → Refusal → Type 0
 RefusesParts p (Sections f) = ⊥
 RefusesParts p (Layout f) = IsRefusal (layout_rules.Broken p) layout_rules.rank f
 RefusesParts p (Code f) =
     IsAccepted (layout_rules.Broken p) × (ss : Members) × HasShapes p ss × IsRefusal (code_rules.Broken (code_in p ss)) code_rules.rank f
-RefusesParts p Unbuilt = (ss : Members) × BreaksNone p ss × (are_built ss (statements p.code) ≡ false)
 
 -- the file is refused: by the first broken rule of its sections, or for its parts
 abbrev pub IsRefused : List ℕ → Refusal → Type 0
 IsRefused bytes (Sections f) = IsRefusal (file_rules.Broken bytes) file_rules.rank f
 IsRefused bytes r = (p : Parts) × IsFile bytes p × RefusesParts p r
 
--- a rule is broken: not one that doesn't run yet
-abbrev pub BreaksRule : List ℕ → Refusal → Type 0
-BreaksRule bytes Unbuilt = ⊥
-BreaksRule bytes r = IsRefused bytes r
-
--- an answer that is no footprint has its cause; want of memory is free
-abbrev pub HasBreak : List ℕ → AcceptFault → Type 0
-HasBreak bytes (Refused r) = BreaksRule bytes r
-HasBreak bytes NoMemory = Unit {0}
-
--- an answer that is no program has its cause; want of memory is free
+-- an answer that is no program and no footprint has its cause; want of memory is free
 abbrev pub HasCause : List ℕ → AcceptFault → Type 0
 HasCause bytes (Refused r) = IsRefused bytes r
 HasCause bytes NoMemory = Unit {0}
 
-abbrev pub BreaksPart : Parts → Refusal → Type 0
-BreaksPart p Unbuilt = ⊥
-BreaksPart p r = RefusesParts p r
-
 abbrev pub PartsCause : Parts → AcceptFault → Type 0
-PartsCause p (Refused r) = BreaksPart p r
+PartsCause p (Refused r) = RefusesParts p r
 PartsCause p NoMemory = Unit {0}
 
 -- ---- lines

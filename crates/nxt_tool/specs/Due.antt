@@ -8,7 +8,7 @@ use Rattle.nxt_model.specs.Report.{IsReport, setting}
 use Rattle.nxt_tool.specs.declared.words.Command.{Command}
 use Rattle.nxt_tool.specs.declared.words.Command.TheVariants.{RunRxe, Check}
 use Rattle.nxt_tool.specs.Words.{command_of}
-use Rattle.nxt_tool.specs.Accepted.{IsAcceptedAs, IsSoundFile, IsRefused, BreaksRule, accepted_line, refused_line}
+use Rattle.nxt_tool.specs.Accepted.{IsAcceptedAs, IsSoundFile, IsRefused, accepted_line, refused_line}
 use Rattle.nxt_tool.specs.Refused.{told}
 use Rattle.nxt_tool.specs.declared.fault.Refusal.{Refusal}
 use Rattle.nxt_tool.specs.Statuses.{status_of}
@@ -110,7 +110,7 @@ Run program script a = Within program (λ bytes. OfFile bytes (λ image. RunOn i
 -- the answer to a program that is checked: the line of its first broken rule, or the footprint of its start
 abbrev pub CheckFile : List ℕ → Answer → Type 0
 CheckFile bytes a =
-    ((r : Refusal) × BreaksRule bytes r × (a ≡ refused_answer r))
+    ((r : Refusal) × IsRefused bytes r × (a ≡ refused_answer r))
     ⊎ ((size : ℕ) × IsSoundFile bytes size × (a ≡ sound_answer size))
 
 abbrev pub CheckOf : List ℕ → Answer → Type 0

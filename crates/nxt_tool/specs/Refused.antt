@@ -1,5 +1,5 @@
 -- Refusals, and what each tells.
-use Rattle.std.specs.Prelude.{ℕ, List, [], ◌∷◌}
+use Rattle.std.specs.Prelude.{ℕ, List}
 use Rattle.nxt_rxe.specs.declared.fault.RxeFault.{RxeFault}
 use Rattle.nxt_rxe.specs.declared.fault.RxeFault.TheVariants as sections
 use Rattle.nxt_rxe.specs.FileRules as file_rules
@@ -10,7 +10,7 @@ use Rattle.nxt_code.specs.declared.fault.CodeFault.{CodeFault}
 use Rattle.nxt_code.specs.declared.fault.CodeFault.TheVariants as code
 use Rattle.nxt_code.specs.CodeRules as code_rules
 use Rattle.nxt_tool.specs.declared.fault.Refusal.{Refusal}
-use Rattle.nxt_tool.specs.declared.fault.Refusal.TheVariants.{Sections, Layout, Code, Unbuilt}
+use Rattle.nxt_tool.specs.declared.fault.Refusal.TheVariants.{Sections, Layout, Code}
 use Rattle.nxt_tool.specs.declared.fault.AcceptFault.{AcceptFault}
 use Rattle.nxt_tool.specs.declared.fault.AcceptFault.TheVariants.{Refused, NoMemory}
 
@@ -19,7 +19,6 @@ abbrev pub told : Refusal → List ℕ
 told (Sections f) = file_rules.rank f
 told (Layout f) = layout_rules.rank f
 told (Code f) = code_rules.rank f
-told Unbuilt = 0 ∷ []
 
 -- a fault of a step on the way from a file to its program: want of memory, or a refusal
 abbrev pub of_sections : RxeFault → AcceptFault

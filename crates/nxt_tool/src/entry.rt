@@ -7,7 +7,7 @@ ghost use Rattle.nxt_tool.specs.Rows.{given, at_first};
 ghost use Rattle.nxt_tool.specs.Words.{command_of, texts_of};
 ghost use Rattle.nxt_tool.specs.declared.words.Command.TheVariants.{RunRxe};
 
-use crate::accept::{accept, check, footprint_line, refusal_line};
+use crate::accepting::{accept, check, footprint_line, refusal_line};
 use crate::fault::{AcceptFault, Refusal};
 use crate::running::run_script;
 use crate::status::Status;

@@ -20,12 +20,10 @@ pub enum Refusal {
     Layout(LayoutFault),
     /// A rule of its clumps and code is broken.
     Code(CodeFault),
-    /// It is none of the images that run today.
-    Unbuilt,
 }
 
 impl Refusal {
-    /// The broken rule with its place, 0 where none is broken; an `Err` where there was no memory.
+    /// The broken rule with its place; an `Err` where there was no memory.
     pub fn broken_rule(self) -> Result<BrokenRule, memory::NoMemory>
         ensures { IfOk result (λ b. rule_and_place b ≡ told self) }
     {
@@ -33,7 +31,6 @@ impl Refusal {
             Refusal::Sections(fault) => fault.broken_rule(),
             Refusal::Layout(fault) => fault.broken_rule(),
             Refusal::Code(fault) => fault.broken_rule(),
-            Refusal::Unbuilt => Ok(BrokenRule::whole(0)),
         }
     }
 }

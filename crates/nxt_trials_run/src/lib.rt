@@ -1,7 +1,5 @@
-//! Tests that run programs: statements on variables, and the tool's commands.
+//! Tests that run the commands of the tool.
 #![tactic(auto)]
 
-#[cfg(test)]
-mod statements;
 #[cfg(test)]
 mod tool;

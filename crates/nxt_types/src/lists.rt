@@ -71,6 +71,14 @@ impl<T: Drop> ListOf<T> {
         Ok(())
     }
 
+    /// Makes room for more items, so that adding these takes no memory.
+    pub fn reserve(&mut self, more: usize) -> Result<(), NoMemory>
+        ensures { self.new ≡ self.old }
+    {
+        self.items.try_reserve(more)?;
+        Ok(())
+    }
+
     /// Keeps the first n items.
     pub fn truncate(&mut self, n: usize)
         ensures { self.new ≡ take n self.old }

@@ -107,7 +107,13 @@ pub fn number_at(heap: &Heap, region: Region, at: u32, kind: Kind) -> i64
     if matches!(kind, Kind::Ulong) {
         return extend(Kind::Ulong, word_at(heap, region, at, Kind::Ulong));
     }
-    extend(kind, word_at(heap, region, at, kind))
+    match kind {
+        Kind::Ubyte => extend(Kind::Ubyte, word_at(heap, region, at, Kind::Ubyte)),
+        Kind::Sbyte => extend(Kind::Sbyte, word_at(heap, region, at, Kind::Sbyte)),
+        Kind::Uword => extend(Kind::Uword, word_at(heap, region, at, Kind::Uword)),
+        Kind::Sword => extend(Kind::Sword, word_at(heap, region, at, Kind::Sword)),
+        Kind::Ulong | Kind::Slong => extend(kind, word_at(heap, region, at, kind)),
+    }
 }
 
 /// The `desc` of an entry; 0 where there is no entry.

@@ -6,7 +6,7 @@ use Rattle.nxt_types.specs.Arithmetic.{word}
 use Rattle.nxt_types.specs.Names.{Name, named, name_in, name_among, below, size, sizes}
 use Rattle.nxt_types.specs.OperandRules.{AreFit, is_mutex}
 use Rattle.nxt_types.specs.Shapes.{Members, no_members, member, is_number}
-use Rattle.nxt_types.specs.Statements.{Statement, statement_of}
+use Rattle.nxt_types.specs.Statements.{statement_of}
 use Rattle.nxt_types.specs.declared.instr.Instr.{Instr}
 use Rattle.nxt_types.specs.declared.instr.Op.{Op}
 use Rattle.nxt_types.specs.declared.instr.Op.TheVariants as ops
@@ -23,41 +23,50 @@ use Rattle.nxt_ops.specs.Ops.{runs as computes}
 use Rattle.nxt_arrays.specs.Arrays.{runs as works_on_lists}
 use Rattle.nxt_operands.proofs.Laws.Named.{IsPart, part_fits, fit_by}
 use Rattle.nxt_machine.specs.Numbers.{number_at}
-use Rattle.nxt_machine.specs.RunsToday.{is_built}
 
 -- ---- it does nothing to values and devices
 
-pub idle : (op : Op) → computes op ≡ false → works_on_lists op ≡ false → (op ≡ ops.Setout → ⊥) → (op ≡ ops.Gettick → ⊥) → (ss : Members) (st : Statement) → st.op ≡ op → is_built ss st ≡ true
-    → (c : Cmp) (d : Devices) (t : Clock) (os : List Operand) → means op c d t os ≡ nothing d
-idle ops.Stop e f g h ss st is built c d t os = refl
-idle ops.Finclump e f g h ss st is built c d t os = refl
-idle ops.Finclumpimmed e f g h ss st is built c d t os = refl
-idle ops.Acquire e f g h ss st is built c d t os = refl
-idle ops.Release e f g h ss st is built c d t os = refl
-idle ops.Subcall e f g h ss st is built c d t os = refl
-idle ops.Subret e f g h ss st is built c d t os = refl
-idle ops.Wait e f g h ss st is built c d t os = refl
-idle ops.Setout e f g h ss st is built c d t os = absurd (g refl)
-idle ops.Gettick e f g h ss st is built c d t os = absurd (h refl)
-idle ops.Syscall e f g h ss st is built c d t os = let no : ⊥ = cc in absurd no
-idle ops.Setin e f g h ss st is built c d t os = let no : ⊥ = cc in absurd no
-idle ops.Getin e f g h ss st is built c d t os = let no : ⊥ = cc in absurd no
-idle ops.Getout e f g h ss st is built c d t os = let no : ⊥ = cc in absurd no
-idle ops.Index e f g h ss st is built c d t os = let no : ⊥ = cc in absurd no
-idle ops.Replace e f g h ss st is built c d t os = let no : ⊥ = cc in absurd no
-idle ops.Arrsize e f g h ss st is built c d t os = let no : ⊥ = cc in absurd no
-idle ops.Arrbuild e f g h ss st is built c d t os = let no : ⊥ = cc in absurd no
-idle ops.Arrsubset e f g h ss st is built c d t os = let no : ⊥ = cc in absurd no
-idle ops.Arrinit e f g h ss st is built c d t os = let no : ⊥ = cc in absurd no
-idle ops.Flatten e f g h ss st is built c d t os = let no : ⊥ = cc in absurd no
-idle ops.Unflatten e f g h ss st is built c d t os = let no : ⊥ = cc in absurd no
-idle ops.Numtostr e f g h ss st is built c d t os = let no : ⊥ = cc in absurd no
-idle ops.Strtonum e f g h ss st is built c d t os = let no : ⊥ = cc in absurd no
-idle ops.Strcat e f g h ss st is built c d t os = let no : ⊥ = cc in absurd no
-idle ops.Strsubset e f g h ss st is built c d t os = let no : ⊥ = cc in absurd no
-idle ops.Strtoarr e f g h ss st is built c d t os = let no : ⊥ = cc in absurd no
-idle ops.Arrtostr e f g h ss st is built c d t os = let no : ⊥ = cc in absurd no
-idle _ e f g h ss st is built c d t os = let no : ⊥ = cc in absurd no
+-- it is neither of these, nor one on devices or the clock
+pub record IsIdle (op : Op) : Type 0 where
+  pub computing : computes op ≡ false
+  pub on_lists : works_on_lists op ≡ false
+  pub setout : op ≡ ops.Setout → ⊥
+  pub setin : op ≡ ops.Setin → ⊥
+  pub getin : op ≡ ops.Getin → ⊥
+  pub getout : op ≡ ops.Getout → ⊥
+  pub gettick : op ≡ ops.Gettick → ⊥
+  pub syscall : op ≡ ops.Syscall → ⊥
+
+pub idle : (op : Op) → IsIdle op → (c : Cmp) (d : Devices) (t : Clock) (os : List Operand) → means op c d t os ≡ nothing d
+idle ops.Stop is c d t os = refl
+idle ops.Finclump is c d t os = refl
+idle ops.Finclumpimmed is c d t os = refl
+idle ops.Acquire is c d t os = refl
+idle ops.Release is c d t os = refl
+idle ops.Subcall is c d t os = refl
+idle ops.Subret is c d t os = refl
+idle ops.Wait is c d t os = refl
+idle ops.Setout is c d t os = absurd (is.setout refl)
+idle ops.Gettick is c d t os = absurd (is.gettick refl)
+idle ops.Syscall is c d t os = absurd (is.syscall refl)
+idle ops.Setin is c d t os = absurd (is.setin refl)
+idle ops.Getin is c d t os = absurd (is.getin refl)
+idle ops.Getout is c d t os = absurd (is.getout refl)
+idle ops.Index is c d t os = let f = is.on_lists in let no : ⊥ = cc in absurd no
+idle ops.Replace is c d t os = let f = is.on_lists in let no : ⊥ = cc in absurd no
+idle ops.Arrsize is c d t os = let f = is.on_lists in let no : ⊥ = cc in absurd no
+idle ops.Arrbuild is c d t os = let f = is.on_lists in let no : ⊥ = cc in absurd no
+idle ops.Arrsubset is c d t os = let f = is.on_lists in let no : ⊥ = cc in absurd no
+idle ops.Arrinit is c d t os = let f = is.on_lists in let no : ⊥ = cc in absurd no
+idle ops.Flatten is c d t os = let f = is.on_lists in let no : ⊥ = cc in absurd no
+idle ops.Unflatten is c d t os = let f = is.on_lists in let no : ⊥ = cc in absurd no
+idle ops.Numtostr is c d t os = let f = is.on_lists in let no : ⊥ = cc in absurd no
+idle ops.Strtonum is c d t os = let f = is.on_lists in let no : ⊥ = cc in absurd no
+idle ops.Strcat is c d t os = let f = is.on_lists in let no : ⊥ = cc in absurd no
+idle ops.Strsubset is c d t os = let f = is.on_lists in let no : ⊥ = cc in absurd no
+idle ops.Strtoarr is c d t os = let f = is.on_lists in let no : ⊥ = cc in absurd no
+idle ops.Arrtostr is c d t os = let f = is.on_lists in let no : ⊥ = cc in absurd no
+idle _ is c d t os = let e = is.computing in let f = is.on_lists in let no : ⊥ = cc in absurd no
 
 -- ---- its operands
 
@@ -87,6 +96,12 @@ release_fits s i words e f = part_fits is_mutex s i.a refl ((fit_by s i words op
 
 pub caller_fits : (s : Variables) (i : Instr) (words : List ℕ) → i.op ≡ ops.Subcall → AreFit s.shapes (statement_of i words) → IsPart s i.b is_number
 caller_fits s i words e f = part_fits is_number s i.b refl ((fit_by s i words ops.Subcall e f).fit 1 (omega arith))
+
+pub input_fits : (s : Variables) (i : Instr) (words : List ℕ) → i.op ≡ ops.Getin → AreFit s.shapes (statement_of i words) → IsPart s i.a is_number
+input_fits s i words e f = part_fits is_number s i.a refl ((fit_by s i words ops.Getin e f).fit 0 (omega arith))
+
+pub output_fits : (s : Variables) (i : Instr) (words : List ℕ) → i.op ≡ ops.Getout → AreFit s.shapes (statement_of i words) → IsPart s i.a is_number
+output_fits s i words e f = part_fits is_number s i.a refl ((fit_by s i words ops.Getout e f).fit 0 (omega arith))
 
 pub tick_fits : (s : Variables) (i : Instr) (words : List ℕ) → i.op ≡ ops.Gettick → AreFit s.shapes (statement_of i words) → IsPart s i.a is_number
 tick_fits s i words e f = part_fits is_number s i.a refl ((fit_by s i words ops.Gettick e f).fit 0 (omega arith))

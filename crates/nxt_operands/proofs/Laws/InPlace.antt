@@ -11,7 +11,7 @@ use Rattle.nxt_types.specs.Shapes.{Shape, Number, Array, Cluster}
 use Rattle.nxt_types.specs.declared.kind.Kind.{Kind}
 use Rattle.nxt_model.specs.Footprint.{list_bytes}
 use Rattle.nxt_model.specs.Values.{Value, Values, Num, ListOf, GroupOf, values, items, value, no_more, elements, list_of, part, with_part, with_elements, stored, is_of, lists_in, lists_among}
-use Rattle.nxt_model.proofs.Laws.Values.{items-values}
+use Rattle.nxt_model.proofs.Laws.Values.{items-values, values-items}
 use Rattle.nxt_space.specs.Spots.{IsListSpot}
 use Rattle.nxt_space.specs.Variables.{Variables, SpaceViews, AreSound, name_of, shape_of, shape_by, value_of, value_by, with_by, with_value, with_values, footprint_of}
 use Rattle.nxt_space.specs.declared.spots.ListSpot.{ListSpot}
@@ -20,10 +20,6 @@ use Rattle.nxt_operands.proofs.Laws.Sizes.{sound_part}
 use Rattle.nxt_operands.proofs.Laws.Stored.{Stores}
 
 -- ---- a part that gets its own value
-
-values-items : (vs : Values) → values (items vs) ≡ vs
-values-items no_more = refl
-values-items (value v vs) = ap (value v) (values-items vs)
 
 elements_again : (v : Value) → with_elements v (elements v) ≡ v
 elements_again (Num z) = refl

@@ -16,10 +16,10 @@ use Rattle.nxt_code.specs.declared.fault.CodeFault.TheVariants as codes
 use Rattle.nxt_code.specs.CodeRules as code_rules
 use Rattle.nxt_tool.specs.declared.fault.AcceptFault.{AcceptFault}
 use Rattle.nxt_tool.specs.Refused.{of_sections, of_layout, of_code}
-use Rattle.nxt_tool.specs.Accepted.{HasBreak, PartsCause, code_in}
+use Rattle.nxt_tool.specs.Accepted.{HasCause, PartsCause, code_in}
 
-pub sections_cause : (bytes : List ℕ) (f : RxeFault) → (f ≡ sections.NoMemory) ⊎ IsRefusal (file_rules.Broken bytes) file_rules.rank f → HasBreak bytes (of_sections f)
-sections_cause bytes f (inl e) = subst (λ x. HasBreak bytes (of_sections x)) (sym e) tt
+pub sections_cause : (bytes : List ℕ) (f : RxeFault) → (f ≡ sections.NoMemory) ⊎ IsRefusal (file_rules.Broken bytes) file_rules.rank f → HasCause bytes (of_sections f)
+sections_cause bytes f (inl e) = subst (λ x. HasCause bytes (of_sections x)) (sym e) tt
 sections_cause bytes sections.NoMemory (inr h) = tt
 sections_cause bytes (sections.Short n) (inr h) = h
 sections_cause bytes _ (inr h) = h

@@ -1,12 +1,10 @@
 -- What holds of the parts of a file that breaks no rule, by their layout.
-use Rattle.std.proofs.Common.{◌≡◌, true, sym, ap, ◌∙◌, subst}
+use Rattle.std.proofs.Common.{◌≡◌, sym, ap, ◌∙◌, subst}
 use Rattle.nxt_rxe.specs.declared.parts.Parts.{Parts}
 use Rattle.nxt_layout.specs.Layouts.{FileLayout}
 use Rattle.nxt_code.specs.declared.code.Code.{Code as AcceptedCode}
 use Rattle.nxt_layout.specs.Start.{StartsAs, start_footprint}
 use Rattle.nxt_model.specs.Image.{Image}
-use Rattle.nxt_types.specs.Statements.{statements}
-use Rattle.nxt_machine.specs.RunsToday.{are_built}
 use Rattle.nxt_tool.specs.Accepted.{BreaksNone, IsJudged, IsRun, IsSound, image_of}
 
 shapes_are : (p : Parts) (l : FileLayout) (c : AcceptedCode) (j : IsJudged p l c) → j.layout.shapes ≡ l.shapes
@@ -29,13 +27,12 @@ judged_sound p l c j =
           ap (λ (x : FileLayout). x.footprint) j.layout.layout ∙ ap (λ ss. start_footprint p ss j.layout.vars) (shapes_are p l c j);
     }
 
-pub judged_run : (p : Parts) (l : FileLayout) (c : AcceptedCode) (j : IsJudged p l c) (image : Image) → are_built l.shapes (statements p.code) ≡ true → image ≡ image_of p l.shapes j.layout.vars → IsRun p image
-judged_run p l c j image built is =
+pub judged_run : (p : Parts) (l : FileLayout) (c : AcceptedCode) (j : IsJudged p l c) (image : Image) → image ≡ image_of p l.shapes j.layout.vars → IsRun p image
+judged_run p l c j image is =
     record {
       shapes = l.shapes;
       sound = breaks_none p l c j;
       vars = j.layout.vars;
       starts = start_is p l c j;
-      runs = built;
       image_is = is;
     }

@@ -12,9 +12,7 @@ use Rattle.nxt_model.specs.Image.{Image}
 use Rattle.nxt_tool.specs.Due.{Answer, answer, Meets, RunOn, answer_to, answer_given, read_status, write_status, refused_answer, sound_answer, OfFile, Run, CheckFile, CheckOf, DueTo, Due, Answers}
 use Rattle.nxt_tool.specs.declared.words.Command.{Command}
 use Rattle.nxt_tool.specs.Words.{command_of}
-use Rattle.nxt_machine.specs.RunsToday.{are_built}
-use Rattle.nxt_types.specs.Statements.{statements}
-use Rattle.nxt_tool.specs.Accepted.{BreaksNone, IsRun, IsSound, IsSoundFile, IsAcceptedAs, IsRefused, BreaksRule, code_in, image_of}
+use Rattle.nxt_tool.specs.Accepted.{BreaksNone, IsRun, IsSound, IsSoundFile, IsAcceptedAs, IsRefused, code_in, image_of}
 use Rattle.nxt_tool.specs.declared.fault.Refusal.{Refusal}
 use Rattle.nxt_tool.specs.declared.fault.Refusal.TheVariants as refusals
 use Rattle.nxt_types.specs.Refusals.{IsRefusal, IsAccepted}
@@ -123,12 +121,11 @@ accepted_run program script image a few accepted on =
 abbrev OnProgram : List ℕ → List ℕ → Type 0
 OnProgram program script = (a : Answer) × OfFile program (λ image. RunOn image script) a
 
-by_test : (program script : List ℕ) (p : Parts) (ss : Members) (b : Bool) → IsFile program p → BreaksNone p ss → are_built ss (statements p.code) ≡ b → OnProgram program script
-by_test program script p ss false file sound e = (refused_answer refusals.Unbuilt, inl (refusals.Unbuilt, (p, file, (ss, sound, e)), refl))
-by_test program script p ss true file sound e =
+on_accepted : (program script : List ℕ) (p : Parts) (ss : Members) → IsFile program p → BreaksNone p ss → OnProgram program script
+on_accepted program script p ss file sound =
     let start = some_start p ss sound.layout sound.shapes in
     let image = image_of p ss start.0 in
-    let run : IsRun p image = record { shapes = ss; sound = sound; vars = start.0; starts = start.1; runs = e; image_is = refl } in
+    let run : IsRun p image = record { shapes = ss; sound = sound; vars = start.0; starts = start.1; image_is = refl } in
     (answer_to image script, inr (image, (p, file, run), run_on image script))
 
 by_code : (program script : List ℕ) (p : Parts) (ss : Members) → IsFile program p → IsAccepted (layout_rules.Broken p) → HasShapes p ss →
@@ -136,7 +133,7 @@ by_code : (program script : List ℕ) (p : Parts) (ss : Members) → IsFile prog
 by_code program script p ss file layout shapes (inl found) =
     (refused_answer (refusals.Code found.0), inl (refusals.Code found.0, (p, file, (layout, ss, shapes, found.1)), refl))
 by_code program script p ss file layout shapes (inr code) =
-    by_test program script p ss (are_built ss (statements p.code)) file (record { layout = layout; shapes = shapes; code = code }) refl
+    on_accepted program script p ss file (record { layout = layout; shapes = shapes; code = code })
 
 by_layout : (program script : List ℕ) (p : Parts) → IsFile program p → ((f : LayoutFault) × IsRefusal (layout_rules.Broken p) layout_rules.rank f) ⊎ (IsAccepted (layout_rules.Broken p) × (ss : Members) × HasShapes p ss) → OnProgram program script
 by_layout program script p file (inl found) = (refused_answer (refusals.Layout found.0), inl (refusals.Layout found.0, (p, file, found.1), refl))
@@ -189,7 +186,7 @@ no_image program script a due = no_image_by (nat_lt 262144 (length program)) pro
 -- ---- checks
 
 -- the line of a program that breaks a rule is due
-pub refused_check : (program : List ℕ) (r : Refusal) → length program ≤ 262144 → BreaksRule program r → CheckOf program (refused_answer r)
+pub refused_check : (program : List ℕ) (r : Refusal) → length program ≤ 262144 → IsRefused program r → CheckOf program (refused_answer r)
 refused_check program r few broken =
     within_by (nat_lt 262144 (length program)) (refused_answer r) _ (short_program program few) (inl (r, broken, refl))
 

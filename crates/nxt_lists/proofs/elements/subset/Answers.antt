@@ -19,7 +19,7 @@ returns-in-Some c d =
     let to = from + c.min-count.result in
     let xs = elements (value_of s c.args.list) in
     let vs = slice_range xs from to in
-    let lists = c.in-Some.ensures in
+    let lists = c.in-Some.ensures.found in
     let is = section_at xs c.length_of-length.result c.word_or.result c.word_or-2.result from c.min-count.result c.length_of-length.ensures c.min-from.ensures c.min-count.ensures in
     let words : section c.word_or.result c.word_or-2.result xs ≡ section (word_or 0 (given_or_left s c.args.at)) (word_or (length xs) (given_or_left s c.args.count)) xs =
     ap₂ (λ i n. section i n xs) c.word_or.ensures (c.word_or-2.ensures ∙ ap (λ n. word_or n (given_or_left s c.args.count)) c.length_of-length.ensures)

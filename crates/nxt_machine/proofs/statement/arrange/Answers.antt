@@ -6,9 +6,9 @@ use Rattle.nxt_operands.specs.Operands.{Done}
 use Rattle.nxt_arrays.specs.Arrays.{CanRun, values_after}
 use Rattle.nxt_space.specs.Outcomes.{Does}
 use Rattle.nxt_space.specs.declared.fault.OpFault.TheVariants.{PoolPassed}
-use Rattle.nxt_machine.specs.Inside.Statements.{Told, devices_of, clock_at, IsPassed}
+use Rattle.nxt_machine.specs.Inside.Statements.{Told, IsPassed}
 use Rattle.nxt_machine.proofs.Meanings.Ended.{list_ran, list_refused}
-use Rattle.nxt_machine.proofs.Kept.{there, whole_there, still_program, same_image}
+use Rattle.nxt_machine.proofs.Kept.{origin, there, whole_there, still_program, same_image}
 use Rattle.nxt_machine.proofs.statement.arrange.Goals as goal
 
 pub run_array-requires : goal.run_array-requires
@@ -27,48 +27,48 @@ run_array-requires c =
     })
 
 pub returns-in-Ok-clause-did : goal.returns-in-Ok-clause-did
-returns-in-Ok-clause-did c motors lines clock =
+returns-in-Ok-clause-did c d lines t =
     let p = c.args.program.now in
     let x = c.args.placed in
-    list_ran p.space c.run_array.new.space p.code.words motors lines clock c.args.place x.word x.instr c.requires.on_lists
-    (subst (λ ws. Does {T = Unit {0}} Done (values_after p.space.vars x.instr ws (devices_of motors) (clock_at clock)) p.space (Ok tt) c.run_array.new.space)
-    c.words.ensures (c.in-Ok.ensures (devices_of motors) (clock_at clock)))
+    list_ran p.space c.run_array.new.space p.code.words d lines t c.args.place x.word x.instr c.requires.on_lists
+    (subst (λ ws. Does {T = Unit {0}} Done (values_after p.space.vars x.instr ws d t) p.space (Ok tt) c.run_array.new.space)
+    c.words.ensures (c.in-Ok.ensures d t))
 
 pub returns-in-Err-PoolPassed-clause-did : goal.returns-in-Err-PoolPassed-clause-did
-returns-in-Err-PoolPassed-clause-did c motors lines clock =
+returns-in-Err-PoolPassed-clause-did c d lines t =
     let p = c.args.program.now in
     let x = c.args.placed in
-    let old : Told = record { vars = p.space.vars; motors = motors; lines = lines } in
-    let new : Told = record { vars = c.run_array.new.space.vars; motors = motors; lines = lines } in
+    let old : Told = record { vars = p.space.vars; devices = d; lines = lines } in
+    let new : Told = record { vars = c.run_array.new.space.vars; devices = d; lines = lines } in
     subst
-    (IsPassed clock (statement_of x.instr p.code.words) old new)
+    (IsPassed t (statement_of x.instr p.code.words) old new)
     (sym c.in-Err-PoolPassed.bytes-is)
-    (list_refused p.space c.run_array.new.space p.code.words motors lines clock c.args.place x.word x.instr c.requires.on_lists
+    (list_refused p.space c.run_array.new.space p.code.words d lines t c.args.place x.word x.instr c.requires.on_lists
     c.in-Err-PoolPassed.bytes
-    (subst (λ ws. Does {T = Unit {0}} Done (values_after p.space.vars x.instr ws (devices_of motors) (clock_at clock)) p.space (Err (PoolPassed c.in-Err-PoolPassed.bytes)) c.run_array.new.space)
+    (subst (λ ws. Does {T = Unit {0}} Done (values_after p.space.vars x.instr ws d t) p.space (Err (PoolPassed c.in-Err-PoolPassed.bytes)) c.run_array.new.space)
     c.words.ensures
     (subst
-    (λ e. Does {T = Unit {0}} Done (values_after p.space.vars x.instr c.words.result.now (devices_of motors) (clock_at clock)) p.space (Err e) c.run_array.new.space)
+    (λ e. Does {T = Unit {0}} Done (values_after p.space.vars x.instr c.words.result.now d t) p.space (Err e) c.run_array.new.space)
     c.in-Err-PoolPassed.field-0-is
-    (c.in-Err-PoolPassed.ensures (devices_of motors) (clock_at clock)))))
+    (c.in-Err-PoolPassed.ensures d t))))
 
 pub returns-in-Ok-clause-program : goal.returns-in-Ok-clause-program
 returns-in-Ok-clause-program c =
-    still_program _ _ c.args.program.now c.run_array.new.space c.run_array.result (c.run_array.ensures at_start (clock_at 0)) c.requires.program
+    still_program _ _ c.args.program.now c.run_array.new.space c.run_array.result (c.run_array.ensures at_start origin) c.requires.program
 
 pub returns-in-Ok-clause-image : goal.returns-in-Ok-clause-image
-returns-in-Ok-clause-image c = same_image _ _ c.args.program.now c.run_array.new.space c.run_array.result (c.run_array.ensures at_start (clock_at 0))
+returns-in-Ok-clause-image c = same_image _ _ c.args.program.now c.run_array.new.space c.run_array.result (c.run_array.ensures at_start origin)
 
 pub returns-in-Err-PoolPassed-clause-program : goal.returns-in-Err-PoolPassed-clause-program
 returns-in-Err-PoolPassed-clause-program c =
-    still_program _ _ c.args.program.now c.run_array.new.space c.run_array.result (c.run_array.ensures at_start (clock_at 0)) c.requires.program
+    still_program _ _ c.args.program.now c.run_array.new.space c.run_array.result (c.run_array.ensures at_start origin) c.requires.program
 
 pub returns-in-Err-PoolPassed-clause-image : goal.returns-in-Err-PoolPassed-clause-image
-returns-in-Err-PoolPassed-clause-image c = same_image _ _ c.args.program.now c.run_array.new.space c.run_array.result (c.run_array.ensures at_start (clock_at 0))
+returns-in-Err-PoolPassed-clause-image c = same_image _ _ c.args.program.now c.run_array.new.space c.run_array.result (c.run_array.ensures at_start origin)
 
 pub returns-in-Err-NoMemory-clause-program : goal.returns-in-Err-NoMemory-clause-program
 returns-in-Err-NoMemory-clause-program c =
-    still_program _ _ c.args.program.now c.run_array.new.space c.run_array.result (c.run_array.ensures at_start (clock_at 0)) c.requires.program
+    still_program _ _ c.args.program.now c.run_array.new.space c.run_array.result (c.run_array.ensures at_start origin) c.requires.program
 
 pub returns-in-Err-NoMemory-clause-image : goal.returns-in-Err-NoMemory-clause-image
-returns-in-Err-NoMemory-clause-image c = same_image _ _ c.args.program.now c.run_array.new.space c.run_array.result (c.run_array.ensures at_start (clock_at 0))
+returns-in-Err-NoMemory-clause-image c = same_image _ _ c.args.program.now c.run_array.new.space c.run_array.result (c.run_array.ensures at_start origin)

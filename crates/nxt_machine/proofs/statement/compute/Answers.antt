@@ -7,9 +7,9 @@ use Rattle.nxt_types.specs.declared.instr.Instr.{Instr}
 use Rattle.nxt_model.specs.Devices.{at_start}
 use Rattle.nxt_ops.specs.Ops.{statement_in, next_of}
 use Rattle.nxt_ops.specs.declared.run.Next.TheVariants.{Jump}
-use Rattle.nxt_machine.specs.Inside.Statements.{Told, devices_of, clock_at, IsPassed}
+use Rattle.nxt_machine.specs.Inside.Statements.{Told, IsPassed}
 use Rattle.nxt_machine.proofs.Meanings.Ended.{Tells, fell, jumped, refused}
-use Rattle.nxt_machine.proofs.Kept.{statement_there, still_program, same_image}
+use Rattle.nxt_machine.proofs.Kept.{origin, statement_there, still_program, same_image}
 use Rattle.nxt_machine.proofs.statement.compute.Goals as goal
 
 pub run_op-requires : goal.run_op-requires
@@ -29,16 +29,16 @@ offset_is i true z e = cc
 offset_is i false z e = let f : ⊥ = cc in absurd f
 
 pub returns-in-Ok-Fall-clause-did : goal.returns-in-Ok-Fall-clause-did
-returns-in-Ok-Fall-clause-did c motors lines clock =
+returns-in-Ok-Fall-clause-did c d lines t =
     let p = c.args.program.now in
-    fell p.space c.run_op.new.space p.code.words motors lines clock c.args.place c.args.placed.word c.args.placed.instr c.requires.computes
-    (let g = c.in-Ok-Fall.ensures (devices_of motors) (clock_at clock) in (g.0, g.1, sym c.in-Ok-Fall.field-0-is ∙ g.2))
+    fell p.space c.run_op.new.space p.code.words d lines t c.args.place c.args.placed.word c.args.placed.instr c.requires.computes
+    (let g = c.in-Ok-Fall.ensures d t in (g.0, g.1, sym c.in-Ok-Fall.field-0-is ∙ g.2))
 
 pub returns-in-Ok-Jump-clause-did : goal.returns-in-Ok-Jump-clause-did
-returns-in-Ok-Jump-clause-did c motors lines clock =
+returns-in-Ok-Jump-clause-did c d lines t =
     let p = c.args.program.now in
     let offset = c.in-Ok-Jump.offset in
-    let told = c.in-Ok-Jump.ensures (devices_of motors) (clock_at clock) in
+    let told = c.in-Ok-Jump.ensures d t in
     let next = sym c.in-Ok-Jump.field-0-is ∙ told.2 in
     let fits : mag offset < 2 ^ 31 = search rules in
     let word =
@@ -46,48 +46,48 @@ returns-in-Ok-Jump-clause-did c motors lines clock =
     ∙ c.landing-word.ensures
     ∙ ap (landing c.args.placed.word) (to_z-of_z {w = w32} {z = offset} (record { sfits = fits }) ∙ offset_is c.args.placed.instr _ offset next)
     in
-    jumped p.space c.run_op.new.space p.code.words motors lines clock c.args.place c.args.placed.word c.args.placed.instr c.requires.computes
+    jumped p.space c.run_op.new.space p.code.words d lines t c.args.place c.args.placed.word c.args.placed.instr c.requires.computes
     offset _ (told.0, told.1, next)
     (c.statement_number.ensures p.code.words c.requires.program.code ∙ ap (statement_number (statements p.code.words)) word)
 
 pub returns-in-Err-PoolPassed-clause-did : goal.returns-in-Err-PoolPassed-clause-did
-returns-in-Err-PoolPassed-clause-did c motors lines clock =
+returns-in-Err-PoolPassed-clause-did c d lines t =
     let p = c.args.program.now in
-    let old : Told = record { vars = p.space.vars; motors = motors; lines = lines } in
-    let new : Told = record { vars = c.run_op.new.space.vars; motors = motors; lines = lines } in
+    let old : Told = record { vars = p.space.vars; devices = d; lines = lines } in
+    let new : Told = record { vars = c.run_op.new.space.vars; devices = d; lines = lines } in
     subst
-    (IsPassed clock (statement_of c.args.placed.instr p.code.words) old new)
+    (IsPassed t (statement_of c.args.placed.instr p.code.words) old new)
     (sym c.in-Err-PoolPassed.bytes-is)
-    (refused p.space c.run_op.new.space p.code.words motors lines clock c.args.place c.args.placed.word c.args.placed.instr c.requires.computes c.in-Err-PoolPassed.bytes c.is_sound.ensures
+    (refused p.space c.run_op.new.space p.code.words d lines t c.args.place c.args.placed.word c.args.placed.instr c.requires.computes c.in-Err-PoolPassed.bytes c.is_sound.ensures
     (subst
-    (λ e. Tells p.space c.run_op.new.space p.code.words motors lines clock c.args.place c.args.placed.word c.args.placed.instr c.requires.computes (Err e))
+    (λ e. Tells p.space c.run_op.new.space p.code.words d lines t c.args.place c.args.placed.word c.args.placed.instr c.requires.computes (Err e))
     c.in-Err-PoolPassed.field-0-is
-    (c.in-Err-PoolPassed.ensures (devices_of motors) (clock_at clock))))
+    (c.in-Err-PoolPassed.ensures d t)))
 
 pub returns-in-Ok-Fall-clause-program : goal.returns-in-Ok-Fall-clause-program
 returns-in-Ok-Fall-clause-program c =
-    still_program _ _ c.args.program.now c.run_op.new.space c.run_op.result (c.run_op.ensures at_start (clock_at 0)) c.requires.program
+    still_program _ _ c.args.program.now c.run_op.new.space c.run_op.result (c.run_op.ensures at_start origin) c.requires.program
 
 pub returns-in-Ok-Fall-clause-image : goal.returns-in-Ok-Fall-clause-image
-returns-in-Ok-Fall-clause-image c = same_image _ _ c.args.program.now c.run_op.new.space c.run_op.result (c.run_op.ensures at_start (clock_at 0))
+returns-in-Ok-Fall-clause-image c = same_image _ _ c.args.program.now c.run_op.new.space c.run_op.result (c.run_op.ensures at_start origin)
 
 pub returns-in-Ok-Jump-clause-program : goal.returns-in-Ok-Jump-clause-program
 returns-in-Ok-Jump-clause-program c =
-    still_program _ _ c.args.program.now c.run_op.new.space c.run_op.result (c.run_op.ensures at_start (clock_at 0)) c.requires.program
+    still_program _ _ c.args.program.now c.run_op.new.space c.run_op.result (c.run_op.ensures at_start origin) c.requires.program
 
 pub returns-in-Ok-Jump-clause-image : goal.returns-in-Ok-Jump-clause-image
-returns-in-Ok-Jump-clause-image c = same_image _ _ c.args.program.now c.run_op.new.space c.run_op.result (c.run_op.ensures at_start (clock_at 0))
+returns-in-Ok-Jump-clause-image c = same_image _ _ c.args.program.now c.run_op.new.space c.run_op.result (c.run_op.ensures at_start origin)
 
 pub returns-in-Err-PoolPassed-clause-program : goal.returns-in-Err-PoolPassed-clause-program
 returns-in-Err-PoolPassed-clause-program c =
-    still_program _ _ c.args.program.now c.run_op.new.space c.run_op.result (c.run_op.ensures at_start (clock_at 0)) c.requires.program
+    still_program _ _ c.args.program.now c.run_op.new.space c.run_op.result (c.run_op.ensures at_start origin) c.requires.program
 
 pub returns-in-Err-PoolPassed-clause-image : goal.returns-in-Err-PoolPassed-clause-image
-returns-in-Err-PoolPassed-clause-image c = same_image _ _ c.args.program.now c.run_op.new.space c.run_op.result (c.run_op.ensures at_start (clock_at 0))
+returns-in-Err-PoolPassed-clause-image c = same_image _ _ c.args.program.now c.run_op.new.space c.run_op.result (c.run_op.ensures at_start origin)
 
 pub returns-in-Err-NoMemory-clause-program : goal.returns-in-Err-NoMemory-clause-program
 returns-in-Err-NoMemory-clause-program c =
-    still_program _ _ c.args.program.now c.run_op.new.space c.run_op.result (c.run_op.ensures at_start (clock_at 0)) c.requires.program
+    still_program _ _ c.args.program.now c.run_op.new.space c.run_op.result (c.run_op.ensures at_start origin) c.requires.program
 
 pub returns-in-Err-NoMemory-clause-image : goal.returns-in-Err-NoMemory-clause-image
-returns-in-Err-NoMemory-clause-image c = same_image _ _ c.args.program.now c.run_op.new.space c.run_op.result (c.run_op.ensures at_start (clock_at 0))
+returns-in-Err-NoMemory-clause-image c = same_image _ _ c.args.program.now c.run_op.new.space c.run_op.result (c.run_op.ensures at_start origin)

@@ -13,7 +13,7 @@ use Rattle.nxt_ops.proofs.run.copy.Goals as goal
 pub returns-in_err-copy_list : goal.returns-in_err-copy_list
 returns-in_err-copy_list c =
     let s = c.args.space.now in
-    let is = c.in-Some.ensures in
+    let is = c.in-Some.ensures.found in
     let same = list_stored s.vars c.args.dest c.args.source c.in-Some.to c.in-Some.from c.requires.sound is.0 is.1 is.2 in
     subst
     (λ v. Does Done (with_value s.vars c.args.dest v) s c.from_residual.result c.copy_list.new.self)
@@ -24,7 +24,7 @@ returns-in_err-copy_list c =
 pub returns-in-Some : goal.returns-in-Some
 returns-in-Some c =
     let s = c.args.space.now in
-    let is = c.in-Some.ensures in
+    let is = c.in-Some.ensures.found in
     let same = list_stored s.vars c.args.dest c.args.source c.in-Some.to c.in-Some.from c.requires.sound is.0 is.1 is.2 in
     let done = c.in_ok-copy_list.ensures c.args.dest c.args.source is.0 is.1 in
     subst

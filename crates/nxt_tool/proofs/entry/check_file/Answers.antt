@@ -1,7 +1,7 @@
 -- What is due to a program that is checked, by how far it was read.
 use Rattle.std.proofs.Common.{◌≡◌, ℕ, ◌≤◌, ◌∙◌, List, Err, ap, subst, length}
 use Rattle.nxt_edge.proofs.Laws.{Consumes-longer}
-use Rattle.nxt_tool.specs.Accepted.{IsSoundFile, BreaksRule, HasBreak}
+use Rattle.nxt_tool.specs.Accepted.{IsSoundFile, IsRefused, HasCause}
 use Rattle.nxt_tool.specs.Due.{refused_answer, sound_answer}
 use Rattle.nxt_tool.specs.declared.fault.AcceptFault.TheVariants.{Refused}
 use Rattle.nxt_tool.proofs.Reports.Statuses.{long_list, read_is, refused_check, sound_check, unread_check, no_memory_check}
@@ -29,6 +29,6 @@ returns-clause-told g c = λ b bytes program.
     let refusal = c.in-Err-Refused.refusal in
     let same : c.in-Ok.bytes ≡ b = read_is _ b _ program c.in-Ok.ensures.all in
     let few : length b ≤ 262144 = subst (λ (l : List ℕ). length l ≤ 262144) same c.in-Ok.ensures.within in
-    let cause : HasBreak c.as_slice.result.now (Refused refusal) = rw c.in-Err-Refused.field-0-is at c.in-Err-Refused.ensures in
-    let broken : BreaksRule b refusal = subst (λ (l : List ℕ). BreaksRule l refusal) (c.as_slice.ensures ∙ same) cause in
+    let cause : HasCause c.as_slice.result.now (Refused refusal) = rw c.in-Err-Refused.field-0-is at c.in-Err-Refused.ensures in
+    let broken : IsRefused b refusal = subst (λ (l : List ℕ). IsRefused l refusal) (c.as_slice.ensures ∙ same) cause in
     (refused_answer refusal, refused_check b refusal few broken, c.refuse.ensures.told)

@@ -1,0 +1,4 @@
+mod Names
+mod Refusals
+mod Ports
+mod Examples

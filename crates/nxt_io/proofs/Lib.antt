@@ -1,0 +1,3 @@
+mod Motors
+pub mod Laws
+mod Examples

@@ -1,0 +1,2 @@
+-- What an event does to devices.
+pub mod Taken

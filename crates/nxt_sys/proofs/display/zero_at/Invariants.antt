@@ -1,0 +1,8 @@
+-- No byte so far is a zero.
+use Rattle.std.proofs.Common.{◌≡◌, ◌+◌, drop}
+use Rattle.std.specs.Prelude.{◌==◌}
+use Rattle.std.specs.List.{position_or_len}
+use Rattle.nxt_sys.proofs.display.zero_at.Given as goal
+
+abbrev pub invariant-loop-k : goal.invariant-loop-k
+invariant-loop-k l = l.k + position_or_len (λ b. b == 0) (drop l.k l.text) ≡ position_or_len (λ b. b == 0) l.text

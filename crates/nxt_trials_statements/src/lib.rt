@@ -1,0 +1,5 @@
+//! Tests that run statements on variables.
+#![tactic(auto)]
+
+#[cfg(test)]
+mod statements;
