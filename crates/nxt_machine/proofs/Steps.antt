@@ -12,3 +12,5 @@ pub mod Turns
 pub mod Numbers
 -- A statement on an element of a list within a turn.
 pub mod Elements
+-- Events from outside.
+pub mod Events
