@@ -6,22 +6,23 @@ use nxt_io::Io;
 use nxt_model::event::Event;
 use std::test::Fail;
 
+static BATTERIES: [Case<'static>; 2] = [
+    (
+        "the battery has 8,000 mV",
+        &[
+            (&[0x00, 0x0B], Stay, "reply,020b00401f\n"),
+            (&[0x80, 0x0B], Stay, ""),
+        ],
+    ),
+    (
+        "the battery is asked for by 2 bytes",
+        &[(&[0x00, 0x0B, 0x00], Stay, "reply,020bbf\n")],
+    ),
+];
+
 #[test]
 fn batteries(rt: HostRuntime) -> Result<(), Fail> {
-    let cases: &[Case] = &[
-        (
-            "the battery has 8,000 mV",
-            &[
-                (&[0x00, 0x0B], Stay, "reply,020b00401f\n"),
-                (&[0x80, 0x0B], Stay, ""),
-            ],
-        ),
-        (
-            "the battery is asked for by 2 bytes",
-            &[(&[0x00, 0x0B, 0x00], Stay, "reply,020bbf\n")],
-        ),
-    ];
-    tell_cases(&rt, rt.alloc(), Program::Idle, cases)
+    tell_cases(&rt, rt.alloc(), Program::Idle, &BATTERIES)
 }
 
 #[test]

@@ -122,33 +122,34 @@ fn hostile_telegrams(rt: HostRuntime) -> Result<(), Fail> {
     tell_cases(&rt, rt.alloc(), Program::Active, cases)
 }
 
+static OTHER_TELEGRAMS: [Case<'static>; 2] = [
+    (
+        "a telegram is dropped unless its first byte is 00 or 80",
+        &[
+            (&[0x01, 0x01], Stay, ""),
+            (&[0x02, 0x01], Stay, ""),
+            (&[0x81, 0x01], Stay, ""),
+            (&[0xFF, 0x01], Stay, ""),
+            (&[0x80], Stay, ""),
+        ],
+    ),
+    (
+        "other commands are unknown",
+        &[
+            (&[0x00, 0x02], Stay, "reply,0202be\n"),
+            (&[0x00, 0x0E], Stay, "reply,020ebe\n"),
+            (&[0x00, 0x0F], Stay, "reply,020fbe\n"),
+            (&[0x00, 0x10], Stay, "reply,0210be\n"),
+            (&[0x00, 0x12], Stay, "reply,0212be\n"),
+            (&[0x00, 0x14], Stay, "reply,0214be\n"),
+            (&[0x00, 0x80], Stay, "reply,0280be\n"),
+            (&[0x00, 0xFF], Stay, "reply,02ffbe\n"),
+            (&[0x80, 0x02], Stay, ""),
+        ],
+    ),
+];
+
 #[test]
 fn other_telegrams(rt: HostRuntime) -> Result<(), Fail> {
-    let cases: &[Case] = &[
-        (
-            "a telegram is dropped unless its first byte is 00 or 80",
-            &[
-                (&[0x01, 0x01], Stay, ""),
-                (&[0x02, 0x01], Stay, ""),
-                (&[0x81, 0x01], Stay, ""),
-                (&[0xFF, 0x01], Stay, ""),
-                (&[0x80], Stay, ""),
-            ],
-        ),
-        (
-            "other commands are unknown",
-            &[
-                (&[0x00, 0x02], Stay, "reply,0202be\n"),
-                (&[0x00, 0x0E], Stay, "reply,020ebe\n"),
-                (&[0x00, 0x0F], Stay, "reply,020fbe\n"),
-                (&[0x00, 0x10], Stay, "reply,0210be\n"),
-                (&[0x00, 0x12], Stay, "reply,0212be\n"),
-                (&[0x00, 0x14], Stay, "reply,0214be\n"),
-                (&[0x00, 0x80], Stay, "reply,0280be\n"),
-                (&[0x00, 0xFF], Stay, "reply,02ffbe\n"),
-                (&[0x80, 0x02], Stay, ""),
-            ],
-        ),
-    ];
-    tell_cases(&rt, rt.alloc(), Program::Active, cases)
+    tell_cases(&rt, rt.alloc(), Program::Active, &OTHER_TELEGRAMS)
 }
