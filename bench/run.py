@@ -1,10 +1,13 @@
 #!/usr/bin/env python3
-"""Times long runs on a built program: bench/run.py PATH_OF_NXT
+"""Times long runs and large scripts on a built program: bench/run.py PATH_OF_NXT [CASE]
 
-Each case runs 4,000,000 bytecodes. It prints the seconds, and the greatest size of the process in memory.
+The first cases run 4,000,000 bytecodes each. Then come scripts of 100,000 rows: the rows of every kind in turn; the longest
+rows, with empty lines between them up to 16,777,216 bytes; telegrams of every command in turn; telegrams that read the longest
+message; and telegrams that start a program again which has 2,000 lists, or 32,000 bytes. The last scripts have 16,777,216 bytes
+and no row. Prints the seconds, the greatest size of the process in memory, and the report's size and last line. With the name
+of a case that one alone is run. A size in memory below that of this script itself isn't seen.
 """
 import os
-import resource
 import struct
 import sys
 import tempfile
@@ -55,31 +58,140 @@ MAIL = image(
     [(12, 10, 2), (32, 1, 21)],
     b"a message of 20 lett\0",
 )
-SCRIPT = b"run,1000000\n" * 4
+# a list of 2,000 lists of a byte each, and the jump
+LISTS = 2000
+MANY = image(
+    [(7, 0, 0), (7, 0, 0), (1, 0, 0)],
+    2,
+    struct.pack("<H", 1),
+    [0x4025, 0],
+    [(2, 10, LISTS + 2), (10 * (LISTS + 2) + 2, 2, LISTS)]
+    + [(10 * (LISTS + 2) + 2 + 2 * LISTS + i, 1, 1) for i in range(LISTS)],
+    struct.pack("<%dH" % LISTS, *range(2, LISTS + 2)) + bytes(LISTS),
+)
+# a list of 32,000 bytes, and the jump
+LONG = image([(7, 0, 0), (1, 0, 0)], 2, struct.pack("<H", 1), [0x4025, 0], [(2, 10, 2), (22, 1, 32000)], bytes(32000))
+
+RUNS = [b"run,1000000\n"] * 4
+ROWS = 100000
+BYTES = 16777216
 
 
-def run(nxt, name, program):
+def telegram(text):
+    return b"telegram," + text.encode() + b"\n"
+
+
+def in_turn(rows):
+    """As many rows as a script may have, which are these in turn."""
+    return (rows[i % len(rows)] for i in range(ROWS))
+
+
+KINDS = [
+    b"run,350\n",
+    b"tick,1000000\n",
+    b"reading,3,65535,65535,-32768\n",
+    b"tacho,2,-128,-2147483648,-2147483648,-2147483648\n",
+    b"button,3,1,255\n",
+    b"battery,65535\n",
+    b"random,-32768\n",
+    telegram("000b"),
+    b"compact,65535\n",
+]
+MESSAGE = "00091327" + "61" * 38 + "00"
+READ = telegram("0013130000")
+# every command that there is, one that there isn't, and one that isn't asked for a reply
+COMMANDS = [
+    telegram(digits)
+    for digits in (
+        "000070726f6772616d2e72786500",
+        "0003b8010100",
+        "0004ff64070100200000000000",
+        "0005030580",
+        "000602",
+        "000703",
+        "000803",
+        MESSAGE,
+        "000a0201",
+        "000b",
+        "000c",
+        "000d",
+        "0011",
+        "0013130001",
+        "0001",
+        "00ff" + "00" * 62,
+        "8004ff9c070100200000000000",
+    )
+]
+# a telegram of 64 bytes, in quotes, with a byte order mark in front: there is no longer row
+LONGEST = b'\xef\xbb\xbf"telegram","' + b"00ff" + b"00" * 62 + b'"\n'
+GAP = b"\n" * (BYTES // ROWS - len(LONGEST))
+
+
+def filled(rows):
+    """These rows, and empty lines behind them up to the length that a script may have."""
+    size = 0
+    for row in rows:
+        size += len(row)
+        yield row
+    yield from (b"\n" for _ in range(BYTES - size))
+
+
+CASES = (
+    ("jump", JUMP, lambda: RUNS),
+    ("loop", LOOP, lambda: RUNS),
+    ("round", ROUND, lambda: RUNS),
+    ("sensor", SENSOR, lambda: RUNS),
+    ("call", CALL, lambda: RUNS),
+    ("mail", MAIL, lambda: RUNS),
+    ("kinds", JUMP, lambda: in_turn(KINDS)),
+    ("longest", JUMP, lambda: filled([LONGEST + GAP] * ROWS)),
+    ("storm", JUMP, lambda: in_turn(COMMANDS)),
+    ("reads", JUMP, lambda: [telegram("0009133b" + "61" * 58 + "00")] + [READ] * (ROWS - 1)),
+    ("again", MANY, lambda: in_turn(COMMANDS[:1])),
+    ("anew", LONG, lambda: in_turn(COMMANDS[:1])),
+    ("empty", JUMP, lambda: filled([])),
+    ("marks", JUMP, lambda: (b"\xef\xbb\xbf\n" for _ in range(BYTES // 4))),
+)
+
+
+def last_line(path):
+    """The size of a report, and its last line."""
+    size = os.path.getsize(path)
+    with open(path, "rb") as f:
+        f.seek(max(size - 200, 0))
+        lines = f.read().splitlines()
+    return size, lines[-1].decode() if lines else ""
+
+
+def run(nxt, name, program, script):
     with tempfile.TemporaryDirectory() as folder:
-        for file, content in (("program", program), ("script", SCRIPT)):
-            with open(os.path.join(folder, file), "wb") as f:
-                f.write(content)
+        paths = [os.path.join(folder, file) for file in ("program", "script", "report")]
+        for path, pieces in zip(paths, ([program], script)):
+            with open(path, "wb") as f:
+                f.writelines(pieces)
         began = time.monotonic()
-        child = os.spawnv(
-            os.P_WAIT, nxt, [nxt, "run", "rxe", os.path.join(folder, "program"), os.path.join(folder, "script")]
+        child = os.posix_spawn(
+            nxt,
+            [nxt, "run", "rxe"] + paths[:2],
+            os.environ,
+            file_actions=[(os.POSIX_SPAWN_OPEN, 1, paths[2], os.O_WRONLY | os.O_CREAT, 0o600)],
         )
+        _, status, usage = os.wait4(child, 0)
         seconds = time.monotonic() - began
-    size = resource.getrusage(resource.RUSAGE_CHILDREN).ru_maxrss
-    print("%-6s status %d, %.2f s, at most %d KiB" % (name, child, seconds, size), flush=True)
+        size, last = last_line(paths[2])
+    status = os.waitstatus_to_exitcode(status)
+    print(
+        "%-7s status %d, %.2f s, at most %d KiB; a report of %d bytes, which ends with %s"
+        % (name, status, seconds, usage.ru_maxrss, size, last),
+        flush=True,
+    )
 
 
 def main():
     nxt = os.path.abspath(sys.argv[1])
-    run(nxt, "jump", JUMP)
-    run(nxt, "loop", LOOP)
-    run(nxt, "round", ROUND)
-    run(nxt, "sensor", SENSOR)
-    run(nxt, "call", CALL)
-    run(nxt, "mail", MAIL)
+    for name, program, script in CASES:
+        if sys.argv[2:] in ([], [name]):
+            run(nxt, name, program, script())
 
 
 main()

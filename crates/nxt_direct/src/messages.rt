@@ -8,14 +8,8 @@ use crate::checks::{of_length, refuse_unless};
 use crate::reply::Reply;
 use crate::status::Status;
 use crate::telegrams::Effect;
-use nxt_io::Io;
-use nxt_model::message::Message;
-
-/// How many mailboxes there are.
-const MAILBOXES: u8 = 20;
-
-/// The bytes of the longest message.
-const LONGEST: usize = 59;
+use nxt_io::{Io, MAILBOXES};
+use nxt_model::message::{LONGEST, Message};
 
 /// The bytes before a message.
 const HEAD: usize = 4;

@@ -12,7 +12,7 @@ use std::alloc::Global;
 use std::marker::Model;
 
 /// The bytes of the longest reply.
-const LONGEST: usize = 64;
+const LONGEST_REPLY: usize = 64;
 
 /// The first byte of every reply.
 const REPLY: u8 = 0x02;
@@ -41,7 +41,7 @@ impl Reply {
     pub fn new(alloc: Global, command: u8) -> Result<Reply, NoMemory>
         ensures { IfOk result (λ r. r ≡ 2 ∷ command ∷ 0 ∷ []) }
     {
-        let mut bytes = Vec::with_capacity(alloc, LONGEST)?;
+        let mut bytes = Vec::with_capacity(alloc, LONGEST_REPLY)?;
         bytes.push_reserved(REPLY);
         bytes.push_reserved(command);
         bytes.push_reserved(SUCCESS);

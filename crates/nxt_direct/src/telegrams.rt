@@ -60,7 +60,6 @@ pub fn telegram(
     io: &mut Io,
     out: &mut Lines,
 ) -> Result<Answer, NoMemory>
-    requires { length bytes.now ≤ 64 }
     ensures answer { IfOk result (λ a. IsAnswer a (direct bytes.now active clock io.old)) }
     ensures devices { OnOk result (io.new ≡ (direct bytes.now active clock io.old).devices) }
     ensures lines { OnOk result (out.new.lines ≡ out.old.lines ++ (direct bytes.now active clock io.old).lines) }

@@ -6,6 +6,13 @@ use crate::source::{Failed, Sink, Source};
 use nxt_types::{Bytes, NoMemory};
 use std::alloc::Global;
 
+/// Why a source wasn't read.
+#[derive(Clone, Copy, Debug, PartialEq, Eq)]
+pub enum ReadFault {
+    Failed,
+    NoMemory,
+}
+
 /// Why not all of a source was read.
 #[derive(Clone, Copy, Debug, PartialEq, Eq)]
 pub enum ReadAllFault {
@@ -17,30 +24,53 @@ pub enum ReadAllFault {
 const BUFFER: usize = 4096;
 
 // Reads once, and adds what came. The count 0 is the end.
-fn read_some<S: Source>(
-    source: &mut S,
-    bytes: &mut Bytes,
-    room: usize,
-) -> Result<usize, ReadAllFault>
+fn read_some<S: Source>(source: &mut S, bytes: &mut Bytes, room: usize) -> Result<usize, ReadFault>
     requires room { 0 < room }
     ensures count { IfOk result (λ n. (n ≤ room) × (length bytes.new ≡ length bytes.old + n)) }
     ensures taken { OnOk result ((more : List ℕ) × (bytes.new ≡ bytes.old ++ more) × Consumes (S.left source.old) (S.left source.new) more) }
     ensures end { result ≡ Ok 0 → IsAtEnd (S.left source.new) }
     ensures later { S.faults source.old ≤ S.faults source.new }
-    ensures failed { IsErrOf result ReadAllFault.Failed → Rose (S.faults source.old) (S.faults source.new) }
-    ensures kept { IsErrOf result ReadAllFault.Failed → Consumes (S.left source.old) (S.left source.new) [] }
-    ensures gone { OnErr result ((more : List ℕ) × Consumes (S.left source.old) (S.left source.new) more) }
-    ensures not_large { IsErrOf result ReadAllFault.TooLarge → ⊥ }
+    ensures failed { IsErrOf result ReadFault.Failed → Rose (S.faults source.old) (S.faults source.new) }
+    ensures kept { IsErrOf result ReadFault.Failed → Consumes (S.left source.old) (S.left source.new) [] }
+    ensures gone { OnErr result ((more : List ℕ) × (length more ≤ room) × Consumes (S.left source.old) (S.left source.new) more) }
 {
     let mut buffer = [0u8; BUFFER];
     let room = room.min(BUFFER);
     let Ok(count) = source.read(&mut buffer[..room]) else {
-        return Err(ReadAllFault::Failed);
+        return Err(ReadFault::Failed);
     };
     let Ok(()) = bytes.append(&buffer[..count]) else {
-        return Err(ReadAllFault::NoMemory);
+        return Err(ReadFault::NoMemory);
     };
     Ok(count)
+}
+
+/// What a source has left: all of it, or, where it has more than the limit, so many bytes of it and one more.
+pub fn read_front<S: Source>(
+    alloc: Global,
+    source: &mut S,
+    limit: usize,
+) -> Result<Bytes, ReadFault>
+    requires { limit ≤ 16777216 }
+    ensures taken { IfOk result (λ bytes. Consumes (S.left source.old) (S.left source.new) bytes) }
+    ensures within { IfOk result (λ bytes. length bytes ≤ limit + 1) }
+    ensures end { IfOk result (λ bytes. length bytes ≤ limit → IsAtEnd (S.left source.new)) }
+    // Where a read failed, no more than the limit was taken.
+    ensures failed_within { IsErrOf result ReadFault.Failed → (taken : List ℕ) × (length taken ≤ limit) × Consumes (S.left source.old) (S.left source.new) taken }
+    ensures gone { OnErr result ((taken : List ℕ) × (length taken ≤ limit + 1) × Consumes (S.left source.old) (S.left source.new) taken) }
+    ensures later { S.faults source.old ≤ S.faults source.new }
+    ensures failed { IsErrOf result ReadFault.Failed → Rose (S.faults source.old) (S.faults source.new) }
+{
+    let mut bytes = Bytes::new(alloc);
+    while bytes.len() <= limit {
+        let room = limit + 1 - bytes.len();
+        match read_some(source, &mut bytes, room) {
+            Ok(0) => return Ok(bytes),
+            Ok(_) => {}
+            Err(fault) => return Err(fault),
+        }
+    }
+    Ok(bytes)
 }
 
 /// All that a source has, if that is not more than the limit.
@@ -60,16 +90,12 @@ pub fn read_all<S: Source>(
     ensures later { S.faults source.old ≤ S.faults source.new }
     ensures failed { IsErrOf result ReadAllFault.Failed → Rose (S.faults source.old) (S.faults source.new) }
 {
-    let mut bytes = Bytes::new(alloc);
-    while bytes.len() <= limit {
-        let room = limit + 1 - bytes.len();
-        match read_some(source, &mut bytes, room) {
-            Ok(0) => return Ok(bytes),
-            Ok(_) => {}
-            Err(fault) => return Err(fault),
-        }
+    match read_front(alloc, source, limit) {
+        Ok(bytes) if bytes.len() <= limit => Ok(bytes),
+        Ok(_) => Err(ReadAllFault::TooLarge),
+        Err(ReadFault::Failed) => Err(ReadAllFault::Failed),
+        Err(ReadFault::NoMemory) => Err(ReadAllFault::NoMemory),
     }
-    Err(ReadAllFault::TooLarge)
 }
 
 /// Writes a whole piece. At an `Err` a front of it was written.

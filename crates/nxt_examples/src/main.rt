@@ -17,7 +17,7 @@ enum Command {
     Check,
 }
 
-const EXAMPLES: [(&str, Command); 15] = [
+const EXAMPLES: [(&str, Command); 19] = [
     ("motor", Command::Run),
     ("rising", Command::Run),
     ("average", Command::Run),
@@ -26,11 +26,15 @@ const EXAMPLES: [(&str, Command); 15] = [
     ("shared_motor", Command::Run),
     ("median", Command::Run),
     ("night_watch", Command::Run),
+    ("line_follower", Command::Run),
+    ("bumper", Command::Run),
     ("lost_jump", Command::Run),
     ("motor", Command::Check),
     ("average", Command::Check),
     ("log", Command::Check),
     ("fills", Command::Check),
+    ("line_follower", Command::Check),
+    ("bumper", Command::Check),
     ("list", Command::Check),
     ("shared_row", Command::Check),
 ];

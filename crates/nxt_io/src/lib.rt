@@ -13,3 +13,4 @@ mod sensor;
 mod sound;
 
 pub use io::Io;
+pub use mailbox::MAILBOXES;

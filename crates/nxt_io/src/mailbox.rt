@@ -13,7 +13,7 @@ use std::marker::Model;
 const MESSAGES: usize = 5;
 
 /// How many mailboxes there are.
-const MAILBOXES: usize = 20;
+pub const MAILBOXES: u8 = 20;
 
 /// A mailbox, with its oldest message first.
 #[derive(Drop)]
@@ -65,7 +65,7 @@ impl Mailbox {
 pub(crate) fn empty_mailboxes(alloc: Global) -> Result<Vec<Mailbox>, NoMemory>
     ensures { IfOk result (λ boxes. boxes.items ≡ replicate 20 []) }
 {
-    let mut mailboxes = Vec::with_capacity(alloc, MAILBOXES)?;
+    let mut mailboxes = Vec::with_capacity(alloc, usize::from(MAILBOXES))?;
     for _ in 0..MAILBOXES {
         mailboxes.push_reserved(Mailbox::new(alloc)?);
     }

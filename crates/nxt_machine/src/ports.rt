@@ -1,6 +1,6 @@
 // What a statement does to motors and sensors.
 
-ghost use Rattle.std.specs.Prelude.{◌≡◌, ◌<◌, ◌≤◌, ◌++◌, ◌==◌, ℕ, List, IfOk, IsSome, OnOk, drop, length, min, true};
+ghost use Rattle.std.specs.Prelude.{◌≡◌, ◌<◌, ◌≤◌, ◌++◌, ◌==◌, ◌∷◌, [], ℕ, List, IfOk, IsSome, OnOk, drop, length, map, min, true};
 ghost use Rattle.nxt_types.specs.Arithmetic.{word};
 ghost use Rattle.nxt_types.specs.OperandRules.{is_plain};
 ghost use Rattle.nxt_types.specs.Shapes.{is_number};
@@ -48,16 +48,6 @@ impl Ports {
         }
         Ok(Ports::Several(numbers_of(alloc, space, i)?))
     }
-
-    /// Whether a port is among them.
-    fn has(&self, port: u8) -> bool
-        ensures { result ≡ is_among (ports_in self.now) port }
-    {
-        match self {
-            Ports::One(one) => *one == u32::from(port),
-            Ports::Several(all) => all.as_slice().iter().any(|n| wrap(*n) == u32::from(port)),
-        }
-    }
 }
 
 /// Stores numbers in the properties of the motors that the first operand names, as the pairs of a statement tell, and has each
@@ -94,13 +84,58 @@ fn set_motors(
     ensures devices { OnOk result (io.new ≡ (set_motors_by space.now.vars (ports_in ports.now) (drop 1 (statement_of instr.now words.now).args) io.old).devices) }
     ensures lines { OnOk result (out.new.lines ≡ out.old.lines ++ (set_motors_by space.now.vars (ports_in ports.now) (drop 1 (statement_of instr.now words.now).args) io.old).lines) }
 {
+    match ports {
+        Ports::One(port) => set_one(space, io, *port, instr, words, out),
+        Ports::Several(all) => set_several(space, io, all, instr, words, out),
+    }
+}
+
+// The same for the motor of a port, if there is one.
+fn set_one(
+    space: &Space,
+    io: &mut Io,
+    port: u32,
+    instr: &Instr,
+    words: &[u16],
+    out: &mut Lines,
+) -> Result<(), NoMemory>
+    requires whole { IsWhole words.now instr.now }
+    ensures devices { OnOk result (io.new ≡ (set_motors_by space.now.vars (port ∷ []) (drop 1 (statement_of instr.now words.now).args) io.old).devices) }
+    ensures lines { OnOk result (out.new.lines ≡ out.old.lines ++ (set_motors_by space.now.vars (port ∷ []) (drop 1 (statement_of instr.now words.now).args) io.old).lines) }
+{
+    if port >= 3 {
+        return Ok(());
+    }
+    set_motor(space, io, port as u8, instr, words, out)
+}
+
+// The same for the motors of several ports.
+fn set_several(
+    space: &Space,
+    io: &mut Io,
+    ports: &Flat,
+    instr: &Instr,
+    words: &[u16],
+    out: &mut Lines,
+) -> Result<(), NoMemory>
+    requires whole { IsWhole words.now instr.now }
+    ensures devices { OnOk result (io.new ≡ (set_motors_by space.now.vars (map word ports.now) (drop 1 (statement_of instr.now words.now).args) io.old).devices) }
+    ensures lines { OnOk result (out.new.lines ≡ out.old.lines ++ (set_motors_by space.now.vars (map word ports.now) (drop 1 (statement_of instr.now words.now).args) io.old).lines) }
+{
     for port in PORTS {
-        if !ports.has(port) {
+        if !has(ports, port) {
             continue;
         }
         set_motor(space, io, port, instr, words, out)?;
     }
     Ok(())
+}
+
+// Whether a port is among several.
+fn has(ports: &Flat, port: u8) -> bool
+    ensures { result ≡ is_among (map word ports.now) port }
+{
+    ports.as_slice().iter().any(|n| wrap(*n) == u32::from(port))
 }
 
 // The same for one motor.

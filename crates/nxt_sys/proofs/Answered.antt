@@ -23,13 +23,12 @@ use Rattle.nxt_space.proofs.Laws.PartSizes.{lists_with_part, bytes_with_part, pa
 use Rattle.nxt_operands.specs.Operands.{Done, place_of}
 use Rattle.nxt_operands.proofs.Laws.OneStored.{one_placed}
 use Rattle.nxt_operands.proofs.Laws.Refusals.{passed_on}
-use Rattle.nxt_texts.specs.Texts.{StoresBytes, flat_bytes}
-use Rattle.nxt_texts.proofs.PackedValues.{filled_of_shape}
-use Rattle.nxt_texts.proofs.Texts.{bytes_storable}
+use Rattle.nxt_texts.specs.Texts.{StoresBytes}
 use Rattle.nxt_sys.specs.Answers.{with_member, with_members}
 use Rattle.nxt_sys.specs.Fields.{HasCluster, HasField, IsMember, width}
 use Rattle.nxt_sys.proofs.Named.{entry, member_put, member_shape, member_some}
 use Rattle.nxt_sys.proofs.Parts.{members_apart}
+use Rattle.nxt_sys.proofs.StoredTexts.{text_stored}
 
 -- ---- numbers alone
 
@@ -134,8 +133,7 @@ told_of : (s : Variables) (cluster i : ℕ) (bs : List ℕ) → AreSound s → I
 told_of s cluster i bs sound some m few =
     let t = shape_of s i in
     let v = stored t (byte_list bs) in
-    let is = (bytes_storable s i bs (flat_bytes bs) sound some m.shape few refl).filled in
-    let of : is_of t v ≡ true = subst (λ w. is_of t w ≡ true) is (filled_of_shape t (flat_bytes bs)) in
+    let of : is_of t v ≡ true = text_stored t (byte_list bs) m.shape in
     subst
     (λ vars. is_of (Cluster s.shapes) vars ≡ true)
     (bytes_told s cluster i bs m)

@@ -3,6 +3,7 @@ pub mod Drawn
 pub mod Members
 pub mod Places
 pub mod Named
+pub mod StoredTexts
 pub mod Answered
 pub mod Calling
 pub mod Mailboxes

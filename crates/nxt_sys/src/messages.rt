@@ -16,7 +16,7 @@ ghost use Rattle.nxt_sys.specs.Fields.{HasCluster};
 use crate::answers::{answer, answer_message};
 use crate::fields::{text, word};
 use nxt_io::Io;
-use nxt_model::message::Message;
+use nxt_model::message::{LONGEST, Message};
 use nxt_space::{OpFault, Space};
 use nxt_texts::body;
 use nxt_types::NoMemory;
@@ -25,9 +25,6 @@ use std::alloc::Global;
 
 /// The last mailbox.
 const LAST_MAILBOX: u32 = 19;
-
-/// The bytes of the longest message, with its final zero.
-const LONGEST: usize = 59;
 
 /// The result where there is no such mailbox.
 const NO_MAILBOX: i64 = -18;

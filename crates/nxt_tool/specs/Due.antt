@@ -1,5 +1,5 @@
 -- The answer that is due to a command, and what a call does of it.
-use Rattle.std.specs.Prelude.{◌≡◌, ◌⊎◌, ◌≤◌, ℕ, List, [], length, map, nat_lt, Bool, true, false, MatchBool, if◌then◌else◌, Option, Some, None, IfSome, IsSome}
+use Rattle.std.specs.Prelude.{◌≡◌, ◌⊎◌, ◌≤◌, ℕ, List, [], length, nat_lt, Bool, true, false, MatchBool, Option, Some, None, IfSome, IsSome}
 use Rattle.std.specs.Io.KnownBytes.{Appends}
 use Rattle.nxt_edge.specs.Edge.{AppendsFront, Rose}
 use Rattle.nxt_model.specs.Image.{Image, program_of}
@@ -12,12 +12,12 @@ use Rattle.nxt_tool.specs.Accepted.{IsAcceptedAs, IsSoundFile, IsRefused, accept
 use Rattle.nxt_tool.specs.Refused.{told}
 use Rattle.nxt_tool.specs.declared.fault.Refusal.{Refusal}
 use Rattle.nxt_tool.specs.Statuses.{status_of}
-use Rattle.nxt_tool.specs.Rows.{Given, given, at_first}
-use Rattle.nxt_tool.specs.Running.{held, report, plain_row}
+use Rattle.nxt_tool.specs.Running.{held, report}
+use Rattle.nxt_script.specs.Rows.{Listing, rows}
 use Rattle.nxt_edge.specs.declared.read_write.ReadAllFault.{ReadAllFault}
 use Rattle.nxt_edge.specs.declared.read_write.ReadAllFault.TheVariants as read
 use Rattle.nxt_tool.specs.declared.writing.Fault.{Fault}
-use Rattle.nxt_tool.specs.declared.writing.Fault.TheVariants as write
+use Rattle.nxt_tool.specs.declared.writing.Fault.TheVariants as faults
 use Rattle.nxt_tool.specs.declared.status.Status.{Status}
 use Rattle.nxt_tool.specs.declared.status.Status.TheVariants as statuses
 
@@ -30,16 +30,12 @@ pub record Answer : Type 0 where
 abbrev pub answer : Status → List ℕ → List ℕ → Answer
 answer status image report = record { status = status; image = image; report = report }
 
-abbrev pub most_script_bytes : ℕ
-most_script_bytes = 16777216
-
 -- the report of a script's rows on an image
 abbrev pub RunOn : Image → List ℕ → Answer → Type 0
 RunOn image script a =
-    MatchBool (nat_lt most_script_bytes (length script)) (a ≡ answer statuses.TooLarge [] [])
-    ((text : List ℕ)
-    × IsReport (setting image 0) (map plain_row (given (at_first script)).0) (given (at_first script)).1 text
-    × (a ≡ answer (status_of (given (at_first script)).1) [] text))
+    (text : List ℕ)
+    × IsReport (setting image 0) (rows script).rows (rows script).end text
+    × (a ≡ answer (status_of (rows script).end) [] text)
 
 -- ended by neither a fault nor want of memory
 abbrev pub is_settled : Status → Bool
@@ -68,18 +64,18 @@ read_status read.Failed = statuses.ReadFault
 read_status read.TooLarge = statuses.TooLarge
 read_status read.NoMemory = statuses.NoMemory
 
-abbrev pub write_status : Fault → Status
-write_status write.Write = statuses.WriteFault
-write_status write.NoMemory = statuses.NoMemory
+abbrev pub fault_status : Fault → Status
+fault_status faults.Read = statuses.ReadFault
+fault_status faults.Write = statuses.WriteFault
+fault_status faults.NoMemory = statuses.NoMemory
 
--- the answer that the machine gives
-abbrev pub answer_given : Image → Given → Answer
-answer_given image g = answer (status_of g.1) [] (report (held image (start (program_of image))) g)
+-- the answer that the machine gives to rows and their end
+abbrev pub answer_given : Image → Listing → Answer
+answer_given image l = answer (status_of l.end) [] (report (held image (start (program_of image))) l)
 
 -- the answer to a script
 abbrev pub answer_to : Image → List ℕ → Answer
-answer_to image script =
-    if nat_lt most_script_bytes (length script) then answer statuses.TooLarge [] [] else answer_given image (given (at_first script))
+answer_to image script = answer_given image (rows script)
 
 -- ---- commands
 

@@ -1,9 +1,8 @@
 ghost use Rattle.std.specs.Prelude.{◌≡◌, ◌⊎◌, ◌↔◌, ℕ, ◌≤◌, List, [], Option, Some, None};
 ghost use Rattle.nxt_edge.specs.Edge.{Rose, AreBytes};
-ghost use Rattle.nxt_tool.specs.Due.{Answer, Meets, read_status, write_status, answer_given, answer_to, refused_answer, sound_answer, Run, CheckOf, Due, UsesProgram, ReadsScript, UsesScript, Accepts, MayReadScript, Answers, IsQuiet, NotRefused};
+ghost use Rattle.nxt_tool.specs.Due.{Answer, Meets, read_status, fault_status, answer_to, refused_answer, sound_answer, Run, CheckOf, Due, UsesProgram, ReadsScript, UsesScript, Accepts, MayReadScript, Answers, IsQuiet, NotRefused};
 ghost use Rattle.nxt_model.specs.Image.{program_of};
 ghost use Rattle.nxt_model.specs.Program.{start};
-ghost use Rattle.nxt_tool.specs.Rows.{given, at_first};
 ghost use Rattle.nxt_tool.specs.Words.{command_of, texts_of};
 ghost use Rattle.nxt_tool.specs.declared.words.Command.TheVariants.{RunRxe};
 
@@ -19,8 +18,6 @@ use std::alloc::Global;
 
 const MOST_PROGRAM: usize = 262_144;
 
-const MOST_SCRIPT: usize = 16_777_216;
-
 fn of_read(fault: ReadAllFault) -> Status
     ensures { result ≡ read_status fault }
 {
@@ -31,28 +28,13 @@ fn of_read(fault: ReadAllFault) -> Status
     }
 }
 
-fn of_write(fault: Fault) -> Status
-    ensures { result ≡ write_status fault }
+fn of_fault(fault: Fault) -> Status
+    ensures { result ≡ fault_status fault }
 {
     match fault {
+        Fault::Read => Status::ReadFault,
         Fault::Write => Status::WriteFault,
         Fault::NoMemory => Status::NoMemory,
-    }
-}
-
-// Runs a script's bytes on a machine.
-fn run_bytes<R: Sink>(alloc: Global, machine: Machine, bytes: &[u8], report: &mut R) -> Status
-    requires start { machine.state ≡ start (program_of machine.image) }
-    ensures told { Meets result (answer_given machine.image (given (at_first bytes.now))) (R.written report.old) (R.written report.new) }
-    ensures write { result ≡ Status.WriteFault → Rose (R.faults report.old) (R.faults report.new) }
-    ensures report { R.faults report.old ≤ R.faults report.new }
-    ensures read { result ≡ Status.ReadFault → ⊥ }
-    ensures accepted { NotRefused result }
-{
-    let mut machine = machine;
-    match run_script(alloc, &mut machine, bytes, report) {
-        Ok(status) => status,
-        Err(fault) => of_write(fault),
     }
 }
 
@@ -71,11 +53,11 @@ fn run_program<Q: Source, R: Sink>(
     ensures report { R.faults report.old ≤ R.faults report.new }
     ensures accepted { NotRefused result }
 {
-    let bytes = match read_all(alloc, script, MOST_SCRIPT) {
-        Ok(bytes) => bytes,
-        Err(fault) => return of_read(fault),
-    };
-    run_bytes(alloc, machine, bytes.as_slice(), report)
+    let mut machine = machine;
+    match run_script(alloc, &mut machine, script, report) {
+        Ok(status) => status,
+        Err(fault) => of_fault(fault),
+    }
 }
 
 // Writes the line of a refused program.
@@ -90,7 +72,7 @@ fn refuse<R: Sink>(alloc: Global, refusal: Refusal, report: &mut R) -> Status
     };
     match put(report, line.as_slice()) {
         Ok(()) => Status::Refused,
-        Err(fault) => of_write(fault),
+        Err(fault) => of_fault(fault),
     }
 }
 
@@ -131,7 +113,7 @@ fn tell<R: Sink>(alloc: Global, footprint: u32, report: &mut R) -> Status
     };
     match put(report, line.as_slice()) {
         Ok(()) => Status::Done,
-        Err(fault) => of_write(fault),
+        Err(fault) => of_fault(fault),
     }
 }
 

@@ -48,7 +48,6 @@ pub(crate) fn tell(
 ) -> Result<(), Fail> {
     let active = program == Program::Active;
     for (bytes, effect, text) in telegrams {
-        assert!(rt; bytes.len() <= 64, "{name}");
         let mut lines = Lines::new(alloc);
         let answer = telegram(alloc, bytes, active, CLOCK, io, &mut lines)?;
         assert_eq!(rt; answer.effect, *effect, "{name}: {bytes:?}");

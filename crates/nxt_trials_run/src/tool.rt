@@ -1,6 +1,7 @@
 // What crosses the crates: worked commands, each statement at its edges, and calls that fail.
 
 mod checks;
+mod events;
 mod faults;
 mod kinds;
 mod programs;

@@ -4,7 +4,7 @@ use Rattle.std.specs.List.{list_any}
 use Rattle.std.specs.Prelude.{ℤ, pos, ◌==◌, ◌||◌, ◌/◌, if◌then◌else◌, zip, filter, nat_lt, slice_index_or, slice_set}
 use Rattle.std.proofs.lemmas.Bool.Decides.{nat_tests}
 use Rattle.std.proofs.lemmas.Simd.{map-map}
-use Rattle.std.proofs.lemmas.List.{get_or-set_same, get_or_past, set-get_or}
+use Rattle.std.proofs.lemmas.List.{append-nil, get_or-set_same, get_or_past, set-get_or}
 use Rattle.nxt_types.specs.declared.kind.Cmp.{Cmp}
 use Rattle.nxt_types.specs.declared.instr.Op.TheVariants as ops
 use Rattle.nxt_types.specs.Arithmetic.{word}
@@ -63,6 +63,26 @@ each_next is f d (x ∷ xs) zero few = by (is x)
     by true = refl
     by false = refl
 each_next is f d (x ∷ xs) (suc k) few = each_next is f d xs k (omega (arith, few))
+
+-- of one port its motor is set, if there is such a port
+pub only_port : (w : ℕ) → filter (is_among (w ∷ [])) (0 ∷ 1 ∷ 2 ∷ []) ≡ (if nat_lt w 3 then w ∷ [] else [])
+only_port zero = refl
+only_port (suc zero) = refl
+only_port (suc (suc zero)) = refl
+only_port (suc (suc (suc w))) =
+    let a : (suc (suc (suc w)) == 0) ≡ false = grind arith in
+    let b : (suc (suc (suc w)) == 1) ≡ false = grind arith in
+    let c : (suc (suc (suc w)) == 2) ≡ false = grind arith in
+    let d : nat_lt (suc (suc (suc w))) 3 ≡ false = grind arith in
+    rw (a, b, c, d) refl
+
+pub one_port : (w : ℕ) (f : ℕ → Devices → Change) (d : Devices) → nat_lt w 3 ≡ true → each_port (filter (is_among (w ∷ [])) (0 ∷ 1 ∷ 2 ∷ [])) f d ≡ f w d
+one_port w f d e =
+    ap (λ ports. each_port ports f d) (only_port w ∙ ap (λ b. if b then w ∷ [] else []) e)
+    ∙ ap (λ ls. changed (f w d).devices ls) (append-nil (f w d).lines)
+
+pub no_port : (w : ℕ) (f : ℕ → Devices → Change) (d : Devices) → nat_lt w 3 ≡ false → each_port (filter (is_among (w ∷ [])) (0 ∷ 1 ∷ 2 ∷ [])) f d ≡ changed d []
+no_port w f d e = ap (λ ports. each_port ports f d) (only_port w ∙ ap (λ b. if b then w ∷ [] else []) e)
 
 pub given_same : (s : Variables) (a : ℕ) → IsNamed s a → read s.values (part_of (named s.shapes a)) ≡ given s a
 given_same s a is = ap (λ o. read s.values (part_of o)) is.by_word ∙ sym (ap (λ o. Given (shape_by o) (value_by o s.values)) is.by_entry)

@@ -1,12 +1,13 @@
 -- One piece of a text after another.
-use Rattle.std.proofs.Common.{◌≡◌, ℕ, List, [], ◌++◌, Option, ◌∙◌, ◌≤◌, Result, Ok, Err, OnOk, OnErr, IfErr, refl, sym, ap, append_assoc, subst, arith}
+use Rattle.std.proofs.Common.{◌≡◌, ℕ, List, [], ◌++◌, Option, ◌∙◌, ◌≤◌, Result, Ok, Err, refl, sym, ap, append_assoc, subst}
 use Rattle.std.proofs.lemmas.List.{append-nil}
 use Rattle.std.specs.Io.KnownBytes.{Appends}
-use Rattle.nxt_edge.specs.Edge.{AppendsFront}
+use Rattle.std.specs.Result.{IsErrAnd, OnOk, OnErr}
+use Rattle.nxt_edge.specs.Edge.{AppendsFront, Rose}
 use Rattle.nxt_edge.proofs.Laws.{Appends-none, Appends-Appends, Appends-Front, Front-more}
 use Rattle.nxt_tool.specs.declared.writing.Fault.{Fault}
 use Rattle.nxt_tool.specs.declared.writing.Fault.TheVariants.{Write}
-use Rattle.nxt_tool.specs.Writing.{Wrote, Writes}
+use Rattle.nxt_tool.specs.Writing.{Wrote, Gathers, IsOfWriting}
 
 pub Wrote-start : (a : Option (List ℕ)) (whole : List ℕ) → Wrote a a whole whole
 Wrote-start a whole = record { front = []; wrote = Appends-none a; split = refl }
@@ -43,25 +44,27 @@ Wrote-on a b c whole left piece rest after e w v = record {
       ∙ w.split;
 }
 
--- ---- the last piece
+-- a call that hands a fault on gathers as much as the call that it comes of
+pub Gathers-failed : {T : Type 0} (a b : Option (List ℕ)) (before now : ℕ) (r : Result T Fault) (gathered left text : List ℕ) (f : Fault) → IsErrAnd r (λ e. e ≡ f) →
+    AppendsFront a b (gathered ++ text) → before ≤ now → IsOfWriting f × (f ≡ Write → Rose before now) → Gathers a b before now r gathered left text
+Gathers-failed a b before now (Ok x) gathered left text f handed front later cause = absurd handed
+Gathers-failed a b before now (Err e) gathered left text f handed front later cause = record {
+  ok = tt;
+  err = front;
+  later = later;
+  cause = subst (λ x. IsOfWriting x × (x ≡ Write → Rose before now)) (sym handed) cause;
+}
 
-ok-by : {T : Type 0} {P Q : Type 0} (r : Result T Fault) → (P → Q) → OnOk r P → OnOk r Q
-ok-by (Ok x) f h = f h
-ok-by (Err e) f h = tt
-
-err-by : {T : Type 0} {P Q : Type 0} (r : Result T Fault) → (P → Q) → OnErr r P → OnErr r Q
-err-by (Ok x) f h = tt
-err-by (Err e) f h = f h
-
-cause-by : {T : Type 0} {P Q : Type 0} (r : Result T Fault) → (P → Q) → IfErr r (λ fault. fault ≡ Write → P) → IfErr r (λ fault. fault ≡ Write → Q)
-cause-by (Ok x) f h = tt
-cause-by (Err e) f h = λ is. f (h is)
+-- what a call says of a text that it wrote whole, or a front of it
+abbrev pub Told : {T : Type 0} → Option (List ℕ) → Option (List ℕ) → Result T Fault → List ℕ → Type 0
+Told a b r text = OnOk r (Appends a b text) × OnErr r (AppendsFront a b text)
 
 -- what is left was written as one piece
-pub Writes-last : {T : Type 0} (a b c : Option (List ℕ)) (before between after : ℕ) (r : Result T Fault) (whole left piece : List ℕ) → left ≡ piece ++ [] → Wrote a b whole left → before ≤ between → Writes b c between after r piece → Writes a c before after r whole
-Writes-last a b c before between after r whole left piece e w later last = record {
-  ok = ok-by r (λ p. Wrote-all a c whole (Wrote-more a b c whole left piece [] e w p)) last.ok;
-  err = err-by r (λ p. Wrote-part a b c whole left piece [] e w p) last.err;
-  later = let more = last.later in omega (arith, later, more);
-  cause = cause-by r (λ rose. omega (arith, later, rose)) last.cause;
-}
+pub Told-last : {T : Type 0} (a b c : Option (List ℕ)) (r : Result T Fault) (whole left piece : List ℕ) → left ≡ piece ++ [] → Wrote a b whole left → Told b c r piece → Told a c r whole
+Told-last a b c (Ok x) whole left piece e w told = (Wrote-all a c whole (Wrote-more a b c whole left piece [] e w told.0), tt)
+Told-last a b c (Err f) whole left piece e w told = (tt, Wrote-part a b c whole left piece [] e w told.1)
+
+-- a call that hands a fault on
+pub Told-failed : {T : Type 0} (a b : Option (List ℕ)) (r : Result T Fault) (whole : List ℕ) (f : Fault) → IsErrAnd r (λ e. e ≡ f) → AppendsFront a b whole → Told a b r whole
+Told-failed a b (Ok x) whole f handed front = absurd handed
+Told-failed a b (Err e) whole f handed front = (tt, front)

@@ -1,5 +1,5 @@
 -- The text of bytecodes, and of a row.
-use Rattle.std.proofs.Common.{◌≡◌, ℕ, zero, suc, ◌+◌, ◌-◌, ◌<◌, ◌≤◌, ◌∙◌, List, [], ◌∷◌, ◌++◌, length, take, get_or, refl, sym, ap, arith, replicate, append_assoc}
+use Rattle.std.proofs.Common.{◌≡◌, ℕ, zero, suc, ◌+◌, ◌-◌, ◌<◌, ◌≤◌, ◌∙◌, List, [], ◌∷◌, ◌++◌, length, take, get_or, Bool, refl, sym, ap, arith, replicate, append_assoc}
 use Rattle.std.proofs.lemmas.List.{append-nil}
 use Rattle.nxt_edge.specs.Edge.{Rose}
 use Rattle.nxt_model.specs.declared.event.Event.{Event}
@@ -9,11 +9,11 @@ use Rattle.nxt_model.specs.Image.{Image, program_of}
 use Rattle.nxt_model.specs.LineText.{line_text, lines_text}
 use Rattle.nxt_model.specs.Program.{State}
 use Rattle.nxt_model.specs.Report.{End, closing}
-use Rattle.nxt_model.specs.Step.{step, run}
+use Rattle.nxt_model.specs.Step.{step, run, events_of}
 use Rattle.nxt_machine.specs.Machines.{MachineViews}
-use Rattle.nxt_tool.specs.declared.script.Row.{Row}
-use Rattle.nxt_tool.specs.Rows.{Given, with_row}
-use Rattle.nxt_tool.specs.Running.{Held, held, held_in, after, text_from, after_all, text_of_rows, events_of, report}
+use Rattle.nxt_model.specs.declared.event.ScriptRow.{ScriptRow}
+use Rattle.nxt_script.specs.Rows.{Listing, with_row, no_rows}
+use Rattle.nxt_tool.specs.Running.{Held, held, held_in, after, text_from, after_all, text_of_rows, report}
 
 -- ---- bytecodes
 
@@ -85,16 +85,25 @@ module _ (m m' : MachineViews) (n left : ℕ) (few : n ≤ left) (image : m'.ima
 pub Rose-later : (a b c : ℕ) → a ≤ b → Rose b c → Rose a c
 Rose-later a b c h r = omega arith
 
+-- ---- events
+
+-- the text of one event, and the machine after it
+pub event_text : (m : MachineViews) (e : Event) (lines : List Line) → lines ≡ [] ++ (step (program_of m.image) m.state e).lines → text_from (held_in m) (e ∷ []) ≡ lines_text lines
+event_text m e lines is = append-nil (lines_text (step (program_of m.image) m.state e).lines) ∙ sym (ap lines_text is)
+
+pub event_state : (m m' : MachineViews) (e : Event) → m'.image ≡ m.image → m'.state ≡ (step (program_of m.image) m.state e).state → held_in m' ≡ after_all (held_in m) (e ∷ [])
+event_state m m' e image state = ap (λ i. held i m'.state) image ∙ ap (held m.image) state
+
 -- ---- rows
 
 -- the report of a row and those behind it
-pub report_row : (s s' : Held) (g more : Given) (row : Row) → g ≡ with_row row more → s' ≡ after_all s (events_of row) →
-    report s g ≡ text_from s (events_of row) ++ report s' more
-report_row s s' g more row e f =
-    ap (λ (x : Given). report s x) e
-    ∙ (append_assoc (text_from s (events_of row)) (text_of_rows (after_all s (events_of row)) more.0) (closing more.1)
-    ∙ ap (λ (u : Held). text_from s (events_of row) ++ report u more) (sym f))
+pub report_row : (h h' : Held) (l more : Listing) (row : ScriptRow) → l ≡ with_row row more → h' ≡ after_all h (events_of row) →
+    report h l ≡ text_from h (events_of row) ++ report h' more
+report_row h h' l more row e f =
+    ap (report h) e
+    ∙ append_assoc (text_from h (events_of row)) (text_of_rows (after_all h (events_of row)) more.rows) (closing more.end)
+    ∙ ap (λ u. text_from h (events_of row) ++ report u more) (sym f)
 
 -- the report of an end alone
-pub report_end : (s : Held) (g : Given) (e : End) → g ≡ ([], e) → report s g ≡ closing e ++ []
-report_end s g e h = ap (λ (x : Given). report s x) h ∙ sym (append-nil (closing e))
+pub report_end : (h : Held) (l : Listing) (e : End) (by_limit : Bool) → l ≡ no_rows e by_limit → report h l ≡ closing e
+report_end h l e by_limit is = ap (report h) is

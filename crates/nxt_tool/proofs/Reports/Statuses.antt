@@ -1,6 +1,6 @@
 -- What the top call's statuses say of the due answer.
-use Rattle.std.proofs.Common.{◌≡◌, ℕ, ◌<◌, List, [], Option, Some, true, false, refl, sym, ap, subst, arith, length, Bool, inl, inr, ◌⊎◌, map, ◌≤◌}
-use Rattle.std.specs.Prelude.{IfSome, nat_lt, if◌then◌else◌}
+use Rattle.std.proofs.Common.{◌≡◌, ℕ, ◌<◌, List, [], Option, Some, true, false, refl, sym, ap, subst, arith, length, Bool, inl, inr, ◌⊎◌, ◌≤◌}
+use Rattle.std.specs.Prelude.{IfSome, nat_lt}
 use Rattle.std.specs.Io.KnownBytes.{Appends}
 use Rattle.std.proofs.lemmas.Bool.Decides.{nat_tests}
 use Rattle.nxt_layout.proofs.Laws.SomeStart.{some_start}
@@ -9,7 +9,7 @@ use Rattle.nxt_edge.specs.declared.read_write.ReadAllFault.{ReadAllFault}
 use Rattle.nxt_edge.specs.declared.read_write.ReadAllFault.TheVariants.{Failed, TooLarge, NoMemory}
 use Rattle.nxt_edge.proofs.Laws.{Appends-none}
 use Rattle.nxt_model.specs.Image.{Image}
-use Rattle.nxt_tool.specs.Due.{Answer, answer, Meets, RunOn, answer_to, answer_given, read_status, write_status, refused_answer, sound_answer, OfFile, Run, CheckFile, CheckOf, DueTo, Due, Answers}
+use Rattle.nxt_tool.specs.Due.{Answer, answer, Meets, RunOn, answer_to, read_status, fault_status, refused_answer, sound_answer, OfFile, Run, CheckFile, CheckOf, DueTo, Due, Answers}
 use Rattle.nxt_tool.specs.declared.words.Command.{Command}
 use Rattle.nxt_tool.specs.Words.{command_of}
 use Rattle.nxt_tool.specs.Accepted.{BreaksNone, IsRun, IsSound, IsSoundFile, IsAcceptedAs, IsRefused, code_in, image_of}
@@ -30,12 +30,11 @@ use Rattle.nxt_code.specs.CodeRules as code_rules
 use Rattle.nxt_code.proofs.Laws.Decided.{code_or_refusal}
 use Rattle.nxt_types.specs.Shapes.{Members}
 use Rattle.nxt_tool.specs.declared.writing.Fault.{Fault}
-use Rattle.nxt_tool.specs.declared.writing.Fault.TheVariants.{Write, NoMemory as NoRoom}
-use Rattle.nxt_tool.specs.Rows.{given, at_first}
+use Rattle.nxt_tool.specs.declared.writing.Fault.TheVariants.{Read, Write, NoMemory as NoRoom}
+use Rattle.nxt_script.specs.Rows.{rows}
 use Rattle.nxt_tool.proofs.Reports.Texts.{is_report}
-use Rattle.nxt_tool.specs.Statuses.{status_of}
-use Rattle.nxt_tool.specs.Running.{held, report, plain_row}
-use Rattle.nxt_model.specs.Report.{IsReport, setting}
+use Rattle.nxt_tool.specs.Statuses.{IsRunEnd}
+use Rattle.nxt_tool.specs.Running.{held, report}
 use Rattle.nxt_model.specs.Program.{start}
 use Rattle.nxt_model.specs.Image.{program_of}
 use Rattle.std.specs.Prelude.{MatchBool}
@@ -59,9 +58,6 @@ long_list left s limit e long = let h : limit < length s = subst (λ (o : Option
 pub read_is : (left : Option (List ℕ)) (b bytes : List ℕ) → left ≡ Some b → IfSome left (λ l. bytes ≡ l) → bytes ≡ b
 read_is left b bytes e h = subst (λ (o : Option (List ℕ)). IfSome o (λ l. bytes ≡ l)) e h
 
-pub long_script : (image : Image) (left : Option (List ℕ)) (s : List ℕ) → left ≡ Some s → IfSome left (λ l. 16777216 < length l) → answer_to image s ≡ answer status.TooLarge [] []
-long_script image left s e long = rw (long_list left s 16777216 e long) refl
-
 -- a sink that isn't used, where no text is due to it
 pub unused : (s : Status) (d : Answer) (i r r' : Option (List ℕ)) → d.image ≡ [] → Meets s d r r' → Meets s (record d { report = d.image }) i i
 unused status.Done d i r r' e m = (m.0, subst (λ (t : List ℕ). Appends i i t) (sym e) (Appends-none i))
@@ -84,20 +80,26 @@ right_status status.ReadFault d r r' m a b = absurd (a refl)
 right_status status.WriteFault d r r' m a b = absurd (b refl)
 right_status status.NoMemory d r r' m a b = inr refl
 
-run_by : (image : Image) (s : List ℕ) (long : Bool) → MatchBool long ((if long then answer status.TooLarge [] [] else answer_given image (given (at_first s))) ≡ answer status.TooLarge [] [])
-    ((text : List ℕ) × IsReport (setting image 0) (map plain_row (given (at_first s)).0) (given (at_first s)).1 text
-    × ((if long then answer status.TooLarge [] [] else answer_given image (given (at_first s))) ≡ answer (status_of (given (at_first s)).1) [] text))
-run_by image s true = refl
-run_by image s false = (report (held image (start (program_of image))) (given (at_first s)), is_report image (given (at_first s)), refl)
-
 -- what the machine gives is due
 pub run_on : (image : Image) (s : List ℕ) → RunOn image s (answer_to image s)
-run_on image s = run_by image s (nat_lt 16777216 (length s))
+run_on image s = (report (held image (start (program_of image))) (rows s), is_report image s, refl)
 
--- a write that failed
-pub write_failed : (fault : Fault) (d : Answer) (w w' : Option (List ℕ)) → AppendsFront w w' d.report → Meets (write_status fault) d w w'
-write_failed Write d w w' h = h
-write_failed NoRoom d w w' h = h
+-- a run that failed
+pub run_failed : (fault : Fault) (d : Answer) (w w' : Option (List ℕ)) → AppendsFront w w' d.report → Meets (fault_status fault) d w w'
+run_failed Read d w w' h = h
+run_failed Write d w w' h = h
+run_failed NoRoom d w w' h = h
+
+-- a run that came to its end
+pub run_ended : (s : Status) (d : Answer) (w w' : Option (List ℕ)) → IsRunEnd s → s ≡ d.status → Appends w w' d.report → Meets s d w w'
+run_ended status.Done d w w' end is h = (is, h)
+run_ended status.ScriptRefused d w w' end is h = (is, h)
+run_ended status.TooLarge d w w' end is h = (is, h)
+run_ended status.Refused d w w' end is h = absurd end
+run_ended status.Words d w w' end is h = absurd end
+run_ended status.ReadFault d w w' end is h = absurd end
+run_ended status.WriteFault d w w' end is h = absurd end
+run_ended status.NoMemory d w w' end is h = absurd end
 
 -- ---- programs
 
@@ -167,14 +169,9 @@ pub no_memory_run : (program script : List ℕ) (w : Option (List ℕ)) → AreB
 no_memory_run program script w bytes = let due = some_run program script bytes in (due.0, due.1, nothing_yet w due.0.report)
 
 -- no image text is due to a run
-no_image_on : (long : Bool) (image : Image) (script : List ℕ) (a : Answer) → MatchBool long (a ≡ answer status.TooLarge [] [])
-    ((text : List ℕ) × IsReport (setting image 0) (map plain_row (given (at_first script)).0) (given (at_first script)).1 text × (a ≡ answer (status_of (given (at_first script)).1) [] text)) → a.image ≡ []
-no_image_on true image script a due = ap (λ (x : Answer). x.image) due
-no_image_on false image script a due = ap (λ (x : Answer). x.image) due.2
-
 no_image_of : (program script : List ℕ) (a : Answer) → OfFile program (λ image. RunOn image script) a → a.image ≡ []
 no_image_of program script a (inl refused) = ap (λ (x : Answer). x.image) refused.2
-no_image_of program script a (inr accepted) = no_image_on (nat_lt 16777216 (length script)) accepted.0 script a accepted.2
+no_image_of program script a (inr accepted) = ap (λ (x : Answer). x.image) accepted.2.2
 
 no_image_by : (long : Bool) (program script : List ℕ) (a : Answer) → MatchBool long (a ≡ answer status.TooLarge [] []) (OfFile program (λ image. RunOn image script) a) → a.image ≡ []
 no_image_by true program script a due = ap (λ (x : Answer). x.image) due

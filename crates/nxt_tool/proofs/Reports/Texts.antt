@@ -1,19 +1,20 @@
 -- The text of a run is a report.
-use Rattle.std.proofs.Common.{◌≡◌, ℕ, zero, suc, List, [], ◌∷◌, ◌++◌, Option, None, refl, sym, ap, ◌∙◌, append_assoc, replicate, map}
+use Rattle.std.proofs.Common.{◌≡◌, ℕ, zero, suc, List, [], ◌∷◌, ◌++◌, Option, None, refl, sym, ap, ◌∙◌, append_assoc, replicate}
 use Rattle.std.specs.Prelude.{flat_map}
 use Rattle.nxt_model.specs.declared.event.Event.{Event}
 use Rattle.nxt_model.specs.declared.event.Event.TheVariants as events
-use Rattle.nxt_model.specs.Step.{step, events_of as plain_events}
+use Rattle.nxt_model.specs.Step.{step, events_of}
 use Rattle.nxt_model.specs.Image.{Image, program_of}
 use Rattle.nxt_model.specs.Program.{State, start}
 use Rattle.nxt_model.specs.Dump.{Mark, mark_after}
 use Rattle.nxt_model.specs.LineText.{lines_text}
 use Rattle.nxt_model.specs.Report.{IsReport, Tells, setting, closing}
 use Rattle.nxt_model.proofs.Laws.Reports.{AllPlain, plain_tells}
-use Rattle.nxt_tool.specs.declared.script.Row.{Row}
-use Rattle.nxt_tool.specs.declared.script.Row.TheVariants.{Run, Tick}
-use Rattle.nxt_tool.specs.Rows.{Given}
-use Rattle.nxt_tool.specs.Running.{Held, held, stepped_held, after, after_all, text_from, text_of_rows, events_of, plain_row, report}
+use Rattle.nxt_model.specs.declared.event.ScriptRow.{ScriptRow}
+use Rattle.nxt_model.specs.declared.event.ScriptRow.TheVariants.{Run, One}
+use Rattle.nxt_script.specs.Rows.{rows}
+use Rattle.nxt_script.proofs.PlainRows.{IsPlain, ArePlain, rows_plain}
+use Rattle.nxt_tool.specs.Running.{Held, held, stepped_held, after, after_all, text_from, text_of_rows, report}
 
 text_both : (h : Held) (es fs : List Event) → text_from h (es ++ fs) ≡ text_from h es ++ text_from (after_all h es) fs
 text_both h [] fs = refl
@@ -21,11 +22,11 @@ text_both h (e ∷ es) fs =
     ap (λ t. lines_text (stepped_held h e).lines ++ t) (text_both (after h e) es fs)
     ∙ sym (append_assoc (lines_text (stepped_held h e).lines) (text_from (after h e) es) (text_from (after_all (after h e) es) fs))
 
-text_of_events : (h : Held) (rows : List Row) → text_of_rows h rows ≡ text_from h (flat_map plain_events (map plain_row rows))
+text_of_events : (h : Held) (rows : List ScriptRow) → text_of_rows h rows ≡ text_from h (flat_map events_of rows)
 text_of_events h [] = refl
 text_of_events h (row ∷ rows) =
     ap (λ t. text_from h (events_of row) ++ t) (text_of_events (after_all h (events_of row)) rows)
-    ∙ sym (text_both h (events_of row) (flat_map plain_events (map plain_row rows)))
+    ∙ sym (text_both h (events_of row) (flat_map events_of rows))
 
 -- without dumps events tell their lines
 tells : (image : Image) (es : List Event) (st : State) (mark : Option Mark) → AllPlain es → Tells (setting image 0) st mark es (text_from (held image st) es)
@@ -47,18 +48,18 @@ plain_bytecodes : (n : ℕ) → AllPlain (replicate n events.Bytecode)
 plain_bytecodes zero = tt
 plain_bytecodes (suc n) = (refl, plain_bytecodes n)
 
-plain_of : (row : Row) → AllPlain (events_of row)
-plain_of (Run n) = plain_bytecodes n
-plain_of (Tick n) = (refl, tt)
+plain_of : (row : ScriptRow) → IsPlain row → AllPlain (events_of row)
+plain_of (Run n) h = plain_bytecodes n
+plain_of (One e) h = (h, tt)
 
-plain_all : (rows : List Row) → AllPlain (flat_map plain_events (map plain_row rows))
-plain_all [] = tt
-plain_all (row ∷ rows) = plain_both (events_of row) (flat_map plain_events (map plain_row rows)) (plain_of row) (plain_all rows)
+plain_all : (rows : List ScriptRow) → ArePlain rows → AllPlain (flat_map events_of rows)
+plain_all [] h = tt
+plain_all (row ∷ rows) h = plain_both (events_of row) (flat_map events_of rows) (plain_of row h.0) (plain_all rows h.1)
 
--- the text of given rows is a report of them
-pub is_report : (image : Image) (g : Given) → IsReport (setting image 0) (map plain_row g.0) g.1 (report (held image (start (program_of image))) g)
-is_report image g = (
-  text_from (held image (start (program_of image))) (flat_map plain_events (map plain_row g.0)),
-  tells image (flat_map plain_events (map plain_row g.0)) (start (program_of image)) None (plain_all g.0),
-  ap (λ t. t ++ closing g.1) (text_of_events (held image (start (program_of image))) g.0),
+-- the text of a script's rows is a report of them
+pub is_report : (image : Image) (s : List ℕ) → IsReport (setting image 0) (rows s).rows (rows s).end (report (held image (start (program_of image))) (rows s))
+is_report image s = (
+  text_from (held image (start (program_of image))) (flat_map events_of (rows s).rows),
+  tells image (flat_map events_of (rows s).rows) (start (program_of image)) None (plain_all (rows s).rows (rows_plain s)),
+  ap (λ t. t ++ closing (rows s).end) (text_of_events (held image (start (program_of image))) (rows s).rows),
 )

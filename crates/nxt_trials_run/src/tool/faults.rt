@@ -36,7 +36,7 @@ fn fails(
 }
 
 // The image has 78 bytes: five calls and the end. The script has 7: one call and the end. The report's three lines have
-// 21, 14 and 6 bytes, so the first takes two calls.
+// 41 bytes together: three calls.
 #[test]
 fn each_call_fails_in_turn(rt: HostRuntime) -> Result<(), Fail> {
     let alloc = rt.alloc();
@@ -61,7 +61,7 @@ fn each_call_fails_in_turn(rt: HostRuntime) -> Result<(), Fail> {
             report: &call,
             ..NONE
         };
-        fails(&rt, alloc, report, k < 4, Status::WriteFault)?;
+        fails(&rt, alloc, report, k < 3, Status::WriteFault)?;
     }
     Ok(())
 }

@@ -1,0 +1,2 @@
+-- What a fault of `lex` tells of a text.
+pub mod Lexed

@@ -1,0 +1,43 @@
+use Rattle.std.proofs.Common.{◌≡◌, pos, get_or, refl, arith}
+use Rattle.std.proofs.lemmas.Int.{ints}
+use Rattle.nxt_script.proofs.row.tacho.Goals as goal
+use mir.Syntax.{w64, w8, w32}
+use mir.Val.{to_z, of_z}
+
+pub overflow_cast-result : goal.overflow_cast-result
+overflow_cast-result c = (let w = c.in_ok-port.ensures.within 0 _ refl in omega (arith, ints), let w = c.in_ok-port.ensures.within 0 _ refl in omega (arith, ints))
+
+pub overflow_cast-result-2 : goal.overflow_cast-result-2
+overflow_cast-result-2 c = let w = c.in_ok-port.ensures.within 1 _ refl in omega (arith, ints)
+
+pub overflow_cast-result-3 : goal.overflow_cast-result-3
+overflow_cast-result-3 c = let w = c.in_ok-port.ensures.within 2 _ refl in omega (arith, ints)
+
+pub overflow_cast-result-4 : goal.overflow_cast-result-4
+overflow_cast-result-4 c = let w = c.in_ok-port.ensures.within 3 _ refl in omega (arith, ints)
+
+pub overflow_cast-result-5 : goal.overflow_cast-result-5
+overflow_cast-result-5 c = let w = c.in_ok-port.ensures.within 4 _ refl in omega (arith, ints)
+
+pub returns : goal.returns
+returns c =
+    let w0 = c.in_ok-port.ensures.within 0 _ refl in
+    let x0 = get_or c.in_ok-port.field-0 0 (pos 0) in
+    let e0 : to_z w64 (of_z w64 x0) ≡ x0 = omega (arith, ints) in
+    let w1 = c.in_ok-port.ensures.within 1 _ refl in
+    let x1 = get_or c.in_ok-port.field-0 1 (pos 0) in
+    let e1 : to_z w64 (of_z w64 x1) ≡ x1 = omega (arith, ints) in
+    let w2 = c.in_ok-port.ensures.within 2 _ refl in
+    let x2 = get_or c.in_ok-port.field-0 2 (pos 0) in
+    let e2 : to_z w64 (of_z w64 x2) ≡ x2 = omega (arith, ints) in
+    let w3 = c.in_ok-port.ensures.within 3 _ refl in
+    let x3 = get_or c.in_ok-port.field-0 3 (pos 0) in
+    let e3 : to_z w64 (of_z w64 x3) ≡ x3 = omega (arith, ints) in
+    let w4 = c.in_ok-port.ensures.within 4 _ refl in
+    let x4 = get_or c.in_ok-port.field-0 4 (pos 0) in
+    let e4 : to_z w64 (of_z w64 x4) ≡ x4 = omega (arith, ints) in
+    let f1 : to_z w8 (of_z w8 x1) ≡ x1 = omega (arith, ints) in
+    let f2 : to_z w32 (of_z w32 x2) ≡ x2 = omega (arith, ints) in
+    let f3 : to_z w32 (of_z w32 x3) ≡ x3 = omega (arith, ints) in
+    let f4 : to_z w32 (of_z w32 x4) ≡ x4 = omega (arith, ints) in
+    rw (← c.in_ok-port.ensures.value) (rw (e0, e1, e2, e3, e4, f1, f2, f3, f4) refl)

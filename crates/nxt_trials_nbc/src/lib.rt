@@ -1,0 +1,11 @@
+//! Tests of texts in NBC: the tokens that they are cut into. What is due is worked out by hand from the rules of the language.
+#![tactic(auto)]
+
+#[cfg(test)]
+mod large;
+#[cfg(test)]
+mod reading;
+#[cfg(test)]
+mod refused;
+#[cfg(test)]
+mod tokens;
