@@ -15,9 +15,11 @@ enum Command {
     Run,
     /// `check NAME.rxe`, which is to write NAME.check.
     Check,
+    /// `list NAME.rxe`, which is to write NAME.list.
+    List,
 }
 
-const EXAMPLES: [(&str, Command); 19] = [
+const EXAMPLES: [(&str, Command); 30] = [
     ("motor", Command::Run),
     ("rising", Command::Run),
     ("average", Command::Run),
@@ -37,6 +39,17 @@ const EXAMPLES: [(&str, Command); 19] = [
     ("bumper", Command::Check),
     ("list", Command::Check),
     ("shared_row", Command::Check),
+    ("motor", Command::List),
+    ("rising", Command::List),
+    ("average", Command::List),
+    ("log", Command::List),
+    ("fills", Command::List),
+    ("shared_motor", Command::List),
+    ("median", Command::List),
+    ("night_watch", Command::List),
+    ("line_follower", Command::List),
+    ("bumper", Command::List),
+    ("list", Command::List),
 ];
 
 // The name of the file that holds what is due.
@@ -44,6 +57,7 @@ fn due_name(alloc: Global, name: &str, command: Command) -> Result<String> {
     match command {
         Command::Run => Ok(format!(in alloc; "{name}.report")?),
         Command::Check => Ok(format!(in alloc; "{name}.check")?),
+        Command::List => Ok(format!(in alloc; "{name}.list")?),
     }
 }
 
@@ -58,6 +72,10 @@ fn words_of(alloc: Global, name: &str, command: Command) -> Result<Vec<Vec<u8>>>
         }
         Command::Check => {
             words.push(b"check".to_vec(alloc)?)?;
+            words.push(format!(in alloc; "{name}.rxe")?.into_bytes())?;
+        }
+        Command::List => {
+            words.push(b"list".to_vec(alloc)?)?;
             words.push(format!(in alloc; "{name}.rxe")?.into_bytes())?;
         }
     }

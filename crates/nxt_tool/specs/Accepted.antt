@@ -11,6 +11,7 @@ use Rattle.nxt_layout.specs.Start.{HasShapes, StartsAs, rows_at_start, start_foo
 use Rattle.nxt_code.specs.CodeRules as code_rules
 use Rattle.nxt_code.specs.Decoding.{IsDecoded}
 use Rattle.nxt_code.specs.declared.code.Code.{Code as AcceptedCode}
+use Rattle.nxt_list.specs.Listing.{listing}
 use Rattle.nxt_model.specs.Image.{Image}
 use Rattle.nxt_model.specs.Values.{Value}
 use Rattle.nxt_model.specs.LineText.{line_of}
@@ -18,6 +19,8 @@ use Rattle.nxt_tool.specs.declared.fault.Refusal.{Refusal}
 use Rattle.nxt_tool.specs.declared.fault.Refusal.TheVariants.{Sections, Layout, Code}
 use Rattle.nxt_tool.specs.declared.fault.AcceptFault.{AcceptFault}
 use Rattle.nxt_tool.specs.declared.fault.AcceptFault.TheVariants.{Refused, NoMemory}
+use Rattle.nxt_tool.specs.declared.words.Description.{Description}
+use Rattle.nxt_tool.specs.declared.words.Description.TheVariants.{Footprint, Listing}
 
 -- the clumps and the code of a file whose variables have these shapes
 abbrev pub code_in : Parts → Members → code_rules.Program
@@ -79,6 +82,10 @@ pub record IsJudged (p : Parts) (l : FileLayout) (c : AcceptedCode) : Type 0 whe
 abbrev pub IsSoundFile : List ℕ → ℕ → Type 0
 IsSoundFile bytes size = (p : Parts) × IsFile bytes p × IsSound p size
 
+-- the bytes are a file that breaks no rule, and this is its listing
+abbrev pub IsListing : List ℕ → List ℕ → Type 0
+IsListing bytes text = (p : Parts) × IsFile bytes p × (ss : Members) × BreaksNone p ss × (text ≡ listing p ss)
+
 -- ---- refused files
 
 -- the first broken rule of the table and the data, or else of the clumps and the code
@@ -109,3 +116,9 @@ accepted_line size = line_of (codes "accepted") (decimal size ∷ [])
 
 abbrev pub refused_line : List ℕ → List ℕ
 refused_line rule_and_place = line_of (codes "refused") (map decimal rule_and_place)
+
+-- ---- what is told of an accepted file
+
+abbrev pub IsDescribed : Description → List ℕ → List ℕ → Type 0
+IsDescribed Footprint bytes text = (size : ℕ) × IsSoundFile bytes size × (text ≡ accepted_line size)
+IsDescribed Listing bytes text = IsListing bytes text

@@ -6,9 +6,10 @@ use Rattle.nxt_model.specs.Image.{Image, program_of}
 use Rattle.nxt_model.specs.Program.{start}
 use Rattle.nxt_model.specs.Report.{IsReport, setting}
 use Rattle.nxt_tool.specs.declared.words.Command.{Command}
-use Rattle.nxt_tool.specs.declared.words.Command.TheVariants.{RunRxe, Check}
+use Rattle.nxt_tool.specs.declared.words.Command.TheVariants.{RunRxe, Describe}
+use Rattle.nxt_tool.specs.declared.words.Description.{Description}
 use Rattle.nxt_tool.specs.Words.{command_of}
-use Rattle.nxt_tool.specs.Accepted.{IsAcceptedAs, IsSoundFile, IsRefused, accepted_line, refused_line}
+use Rattle.nxt_tool.specs.Accepted.{IsAcceptedAs, IsRefused, IsDescribed, refused_line}
 use Rattle.nxt_tool.specs.Refused.{told}
 use Rattle.nxt_tool.specs.declared.fault.Refusal.{Refusal}
 use Rattle.nxt_tool.specs.Statuses.{status_of}
@@ -86,9 +87,9 @@ most_program_bytes = 262144
 abbrev pub refused_answer : Refusal → Answer
 refused_answer r = answer statuses.Refused [] (refused_line (told r))
 
--- an accepted one has the line of its footprint
-abbrev pub sound_answer : ℕ → Answer
-sound_answer size = answer statuses.Done [] (accepted_line size)
+-- an accepted one has what is told of it
+abbrev pub described_answer : List ℕ → Answer
+described_answer text = answer statuses.Done [] text
 
 -- of an accepted file `go` says what is due
 abbrev pub OfFile : List ℕ → (Image → Answer → Type 0) → Answer → Type 0
@@ -103,19 +104,19 @@ Within program go a = MatchBool (nat_lt most_program_bytes (length program)) (a 
 abbrev pub Run : List ℕ → List ℕ → Answer → Type 0
 Run program script a = Within program (λ bytes. OfFile bytes (λ image. RunOn image script)) a
 
--- the answer to a program that is checked: the line of its first broken rule, or the footprint of its start
-abbrev pub CheckFile : List ℕ → Answer → Type 0
-CheckFile bytes a =
+-- the answer to a program that is described: the line of its first broken rule, or what is told of it
+abbrev pub DescribedFile : Description → List ℕ → Answer → Type 0
+DescribedFile d bytes a =
     ((r : Refusal) × IsRefused bytes r × (a ≡ refused_answer r))
-    ⊎ ((size : ℕ) × IsSoundFile bytes size × (a ≡ sound_answer size))
+    ⊎ ((text : List ℕ) × IsDescribed d bytes text × (a ≡ described_answer text))
 
-abbrev pub CheckOf : List ℕ → Answer → Type 0
-CheckOf program a = Within program CheckFile a
+abbrev pub Describes : Description → List ℕ → Answer → Type 0
+Describes d program a = Within program (DescribedFile d) a
 
 abbrev pub DueTo : Option Command → List ℕ → List ℕ → Answer → Type 0
 DueTo None program script a = a ≡ answer statuses.Words [] []
 DueTo (Some RunRxe) program script a = Run program script a
-DueTo (Some Check) program script a = CheckOf program a
+DueTo (Some (Describe d)) program script a = Describes d program a
 
 abbrev pub Due : List (List ℕ) → List ℕ → List ℕ → Answer → Type 0
 Due words program script a = DueTo (command_of words) program script a

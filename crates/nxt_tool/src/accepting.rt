@@ -6,12 +6,14 @@ ghost use Rattle.nxt_rxe.specs.declared.parts.Parts.{Parts as FileParts};
 ghost use Rattle.nxt_rxe.specs.Files.{HasCounts, Fits, IsFile};
 ghost use Rattle.nxt_model.specs.Image.{program_of};
 ghost use Rattle.nxt_model.specs.Program.{start};
-ghost use Rattle.nxt_tool.specs.Accepted.{IsJudged, IsSoundFile, IsAcceptedAs, HasCause, PartsCause, accepted_line, refused_line};
+ghost use Rattle.nxt_tool.specs.Accepted.{IsJudged, IsSoundFile, IsListing, IsDescribed, IsAcceptedAs, HasCause, PartsCause, accepted_line, refused_line};
 ghost use Rattle.nxt_tool.specs.Refused.{told};
 
 use crate::fault::{AcceptFault, Refusal};
+use crate::words::Description;
 use nxt_code::{Code, check_code};
 use nxt_layout::{Layout, check_layout};
+use nxt_list::list;
 use nxt_machine::Machine;
 use nxt_model::text::{count_line, number_line};
 use nxt_rxe::{Parts, read_rxe};
@@ -28,8 +30,36 @@ pub fn accept(alloc: Global, bytes: &[u8]) -> Result<Machine, AcceptFault>
     Ok(Machine::new(alloc, layout, code)?)
 }
 
-/// The bytes of the pool that the start of a file needs, or the first rule that the file breaks.
-pub fn check(alloc: Global, bytes: &[u8]) -> Result<u32, AcceptFault>
+/// What is told of a file that breaks no rule, or the first rule that it breaks.
+pub fn describe(alloc: Global, description: Description, bytes: &[u8]) -> Result<Bytes, AcceptFault>
+    ensures { MatchResult result (IsDescribed description bytes.now) (HasCause bytes.now) }
+{
+    match description {
+        Description::Footprint => footprint(alloc, bytes),
+        Description::Listing => listing(alloc, bytes),
+    }
+}
+
+// The line of the bytes of the pool that the start of a file needs.
+fn footprint(alloc: Global, bytes: &[u8]) -> Result<Bytes, AcceptFault>
+    ensures { MatchResult result (IsDescribed Description.Footprint bytes.now) (HasCause bytes.now) }
+{
+    let size = check(alloc, bytes)?;
+    Ok(footprint_line(alloc, size)?)
+}
+
+// The listing of a file.
+fn listing(alloc: Global, bytes: &[u8]) -> Result<Bytes, AcceptFault>
+    ensures { MatchResult result (IsListing bytes.now) (HasCause bytes.now) }
+{
+    let parts = read_rxe(alloc, bytes)?;
+    let header = parts.header;
+    let (layout, code) = judge(alloc, parts)?;
+    Ok(list(alloc, &header, &layout, &code)?)
+}
+
+// The bytes of the pool that the start of a file needs, or the first rule that the file breaks.
+fn check(alloc: Global, bytes: &[u8]) -> Result<u32, AcceptFault>
     ensures { MatchResult result (IsSoundFile bytes.now) (HasCause bytes.now) }
 {
     let (layout, _code) = judged(alloc, bytes)?;
@@ -55,8 +85,8 @@ fn judge(alloc: Global, parts: Parts) -> Result<(Layout, Code), AcceptFault>
     Ok((layout, code))
 }
 
-/// The line of an accepted file: the bytes of the pool that its start needs.
-pub fn footprint_line(alloc: Global, footprint: u32) -> Result<Bytes, NoMemory>
+// The line of an accepted file: the bytes of the pool that its start needs.
+fn footprint_line(alloc: Global, footprint: u32) -> Result<Bytes, NoMemory>
     ensures { IfOk result (λ text. text ≡ accepted_line footprint) }
 {
     number_line(alloc, b"accepted", &[i64::from(footprint)])

@@ -1,16 +1,16 @@
 ghost use Rattle.std.specs.Prelude.{◌≡◌, ◌⊎◌, ◌↔◌, ℕ, ◌≤◌, List, [], Option, Some, None};
 ghost use Rattle.nxt_edge.specs.Edge.{Rose, AreBytes};
-ghost use Rattle.nxt_tool.specs.Due.{Answer, Meets, read_status, fault_status, answer_to, refused_answer, sound_answer, Run, CheckOf, Due, UsesProgram, ReadsScript, UsesScript, Accepts, MayReadScript, Answers, IsQuiet, NotRefused};
+ghost use Rattle.nxt_tool.specs.Due.{Answer, Meets, read_status, fault_status, answer_to, refused_answer, described_answer, Run, Describes, Due, UsesProgram, ReadsScript, UsesScript, Accepts, MayReadScript, Answers, IsQuiet, NotRefused};
 ghost use Rattle.nxt_model.specs.Image.{program_of};
 ghost use Rattle.nxt_model.specs.Program.{start};
 ghost use Rattle.nxt_tool.specs.Words.{command_of, texts_of};
 ghost use Rattle.nxt_tool.specs.declared.words.Command.TheVariants.{RunRxe};
 
-use crate::accepting::{accept, check, footprint_line, refusal_line};
+use crate::accepting::{accept, describe, refusal_line};
 use crate::fault::{AcceptFault, Refusal};
 use crate::running::run_script;
 use crate::status::Status;
-use crate::words::{Command, form_of};
+use crate::words::{Command, Description, form_of};
 use crate::writing::{Fault, put};
 use nxt_edge::{ReadAllFault, Sink, Source, read_all};
 use nxt_machine::Machine;
@@ -101,25 +101,27 @@ fn run<P: Source, Q: Source, R: Sink>(
     }
 }
 
-// Writes the line of an accepted program.
-fn tell<R: Sink>(alloc: Global, footprint: u32, report: &mut R) -> Status
-    ensures told { Meets result (sound_answer footprint) (R.written report.old) (R.written report.new) }
+// Writes what is told of an accepted program.
+fn tell<R: Sink>(text: &[u8], report: &mut R) -> Status
+    ensures told { Meets result (described_answer text.now) (R.written report.old) (R.written report.new) }
     ensures write { result ≡ Status.WriteFault → Rose (R.faults report.old) (R.faults report.new) }
     ensures report { R.faults report.old ≤ R.faults report.new }
     ensures only { (result ≡ Status.ReadFault → ⊥) × (result ≡ Status.Words → ⊥) }
 {
-    let Ok(line) = footprint_line(alloc, footprint) else {
-        return Status::NoMemory;
-    };
-    match put(report, line.as_slice()) {
+    match put(report, text) {
         Ok(()) => Status::Done,
         Err(fault) => of_fault(fault),
     }
 }
 
-// Checks a program file.
-fn check_file<P: Source, R: Sink>(alloc: Global, program: &mut P, report: &mut R) -> Status
-    ensures told { (b : List ℕ) → AreBytes b → P.left program.old ≡ Some b → (a : Answer) × CheckOf b a × Meets result a (R.written report.old) (R.written report.new) }
+// Judges a program file, and tells of it.
+fn describe_file<P: Source, R: Sink>(
+    alloc: Global,
+    description: Description,
+    program: &mut P,
+    report: &mut R,
+) -> Status
+    ensures told { (b : List ℕ) → AreBytes b → P.left program.old ≡ Some b → (a : Answer) × Describes description b a × Meets result a (R.written report.old) (R.written report.new) }
     ensures read { result ≡ Status.ReadFault → Rose (P.faults program.old) (P.faults program.new) }
     ensures write { result ≡ Status.WriteFault → Rose (R.faults report.old) (R.faults report.new) }
     ensures words { result ≡ Status.Words → ⊥ }
@@ -129,8 +131,8 @@ fn check_file<P: Source, R: Sink>(alloc: Global, program: &mut P, report: &mut R
         Ok(bytes) => bytes,
         Err(fault) => return of_read(fault),
     };
-    match check(alloc, bytes.as_slice()) {
-        Ok(footprint) => tell(alloc, footprint, report),
+    match describe(alloc, description, bytes.as_slice()) {
+        Ok(text) => tell(text.as_slice(), report),
         Err(AcceptFault::NoMemory) => Status::NoMemory,
         Err(AcceptFault::Refused(refusal)) => refuse(alloc, refusal, report),
     }
@@ -157,7 +159,9 @@ fn answer<P: Source, Q: Source, I: Sink, R: Sink>(
 {
     match form_of(words) {
         Some(Command::RunRxe) => run(alloc, program, script, report),
-        Some(Command::Check) => check_file(alloc, program, report),
+        Some(Command::Describe(description)) => {
+            describe_file(alloc, description, program, report)
+        }
         None => Status::Words,
     }
 }
@@ -166,6 +170,7 @@ fn answer<P: Source, Q: Source, I: Sink, R: Sink>(
 ///
 /// `run rxe FILE SCRIPT` runs the rows of the script on the image that the program holds, and writes the report.
 /// `check FILE` writes whether the program's image is accepted, and with what footprint, or the first rule that it breaks.
+/// `list FILE` writes the image as text, line by line, or the first rule that it breaks.
 /// Other words have no form: nothing is read or written. `image` is for commands that write a file.
 pub fn nxt<P: Source, Q: Source, I: Sink, R: Sink>(
     alloc: Global,

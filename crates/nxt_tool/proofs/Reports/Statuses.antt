@@ -9,10 +9,12 @@ use Rattle.nxt_edge.specs.declared.read_write.ReadAllFault.{ReadAllFault}
 use Rattle.nxt_edge.specs.declared.read_write.ReadAllFault.TheVariants.{Failed, TooLarge, NoMemory}
 use Rattle.nxt_edge.proofs.Laws.{Appends-none}
 use Rattle.nxt_model.specs.Image.{Image}
-use Rattle.nxt_tool.specs.Due.{Answer, answer, Meets, RunOn, answer_to, read_status, fault_status, refused_answer, sound_answer, OfFile, Run, CheckFile, CheckOf, DueTo, Due, Answers}
+use Rattle.nxt_tool.specs.Due.{Answer, answer, Meets, RunOn, answer_to, read_status, fault_status, refused_answer, described_answer, OfFile, Run, DescribedFile, Describes, DueTo, Due, Answers}
 use Rattle.nxt_tool.specs.declared.words.Command.{Command}
+use Rattle.nxt_tool.specs.declared.words.Description.{Description}
+use Rattle.nxt_tool.specs.declared.words.Description.TheVariants.{Footprint, Listing}
 use Rattle.nxt_tool.specs.Words.{command_of}
-use Rattle.nxt_tool.specs.Accepted.{BreaksNone, IsRun, IsSound, IsSoundFile, IsAcceptedAs, IsRefused, code_in, image_of}
+use Rattle.nxt_tool.specs.Accepted.{BreaksNone, IsRun, IsSound, IsAcceptedAs, IsRefused, IsDescribed, accepted_line, code_in, image_of}
 use Rattle.nxt_tool.specs.declared.fault.Refusal.{Refusal}
 use Rattle.nxt_tool.specs.declared.fault.Refusal.TheVariants as refusals
 use Rattle.nxt_types.specs.Refusals.{IsRefusal, IsAccepted}
@@ -31,6 +33,7 @@ use Rattle.nxt_code.proofs.Laws.Decided.{code_or_refusal}
 use Rattle.nxt_types.specs.Shapes.{Members}
 use Rattle.nxt_tool.specs.declared.writing.Fault.{Fault}
 use Rattle.nxt_tool.specs.declared.writing.Fault.TheVariants.{Read, Write, NoMemory as NoRoom}
+use Rattle.nxt_list.specs.Listing.{listing}
 use Rattle.nxt_script.specs.Rows.{rows}
 use Rattle.nxt_tool.proofs.Reports.Texts.{is_report}
 use Rattle.nxt_tool.specs.Statuses.{IsRunEnd}
@@ -180,66 +183,76 @@ no_image_by false program script a due = no_image_of program script a due
 pub no_image : (program script : List ℕ) (a : Answer) → Run program script a → a.image ≡ []
 no_image program script a due = no_image_by (nat_lt 262144 (length program)) program script a due
 
--- ---- checks
+-- ---- descriptions
 
--- the line of a program that breaks a rule is due
-pub refused_check : (program : List ℕ) (r : Refusal) → length program ≤ 262144 → IsRefused program r → CheckOf program (refused_answer r)
-refused_check program r few broken =
-    within_by (nat_lt 262144 (length program)) (refused_answer r) _ (short_program program few) (inl (r, broken, refl))
+module _ (d : Description) where
+  -- the line of a program that breaks a rule is due
+  pub refused_description : (program : List ℕ) (r : Refusal) → length program ≤ 262144 → IsRefused program r → Describes d program (refused_answer r)
+  refused_description program r few broken =
+      within_by (nat_lt 262144 (length program)) (refused_answer r) _ (short_program program few) (inl (r, broken, refl))
 
--- and so is that of a sound one
-pub sound_check : (program : List ℕ) (size : ℕ) → length program ≤ 262144 → IsSoundFile program size → CheckOf program (sound_answer size)
-sound_check program size few sound =
-    within_by (nat_lt 262144 (length program)) (sound_answer size) _ (short_program program few) (inr (size, sound, refl))
+  -- and so is what is told of another
+  pub due_description : (program text : List ℕ) → length program ≤ 262144 → IsDescribed d program text → Describes d program (described_answer text)
+  due_description program text few told =
+      within_by (nat_lt 262144 (length program)) (described_answer text) _ (short_program program few) (inr (text, told, refl))
 
-check_code : (program : List ℕ) (p : Parts) (ss : Members) → IsFile program p → IsAccepted (layout_rules.Broken p) → HasShapes p ss →
-    ((f : CodeFault) × IsRefusal (code_rules.Broken (code_in p ss)) code_rules.rank f) ⊎ IsAccepted (code_rules.Broken (code_in p ss)) → (a : Answer) × CheckFile program a
-check_code program p ss file layout shapes (inl found) =
-    (refused_answer (refusals.Code found.0), inl (refusals.Code found.0, (p, file, (layout, ss, shapes, found.1)), refl))
-check_code program p ss file layout shapes (inr code) =
-    let start = some_start p ss layout shapes in
+-- something is told of a file that breaks no rule
+some_description : (d : Description) (program : List ℕ) (p : Parts) (ss : Members) → IsFile program p → BreaksNone p ss → (text : List ℕ) × IsDescribed d program text
+some_description Footprint program p ss file sound =
+    let start = some_start p ss sound.layout sound.shapes in
     let size = start_footprint p ss start.0 in
-    let sound : IsSound p size = record { shapes = ss; sound = record { layout = layout; shapes = shapes; code = code }; vars = start.0; starts = start.1; size_is = refl } in
-    (sound_answer size, inr (size, (p, file, sound), refl))
+    let is : IsSound p size = record { shapes = ss; sound = sound; vars = start.0; starts = start.1; size_is = refl } in
+    (accepted_line size, (size, (p, file, is), refl))
+some_description Listing program p ss file sound = (listing p ss, (p, file, ss, sound, refl))
 
-check_layout : (program : List ℕ) (p : Parts) → IsFile program p → ((f : LayoutFault) × IsRefusal (layout_rules.Broken p) layout_rules.rank f) ⊎ (IsAccepted (layout_rules.Broken p) × (ss : Members) × HasShapes p ss) → (a : Answer) × CheckFile program a
-check_layout program p file (inl found) = (refused_answer (refusals.Layout found.0), inl (refusals.Layout found.0, (p, file, found.1), refl))
-check_layout program p file (inr found) = check_code program p found.1 file found.0 found.2 (code_or_refusal (code_in p found.1))
+module _ (d : Description) where
+  described : (program : List ℕ) (p : Parts) (ss : Members) → IsFile program p → BreaksNone p ss → (a : Answer) × DescribedFile d program a
+  described program p ss file sound =
+      let told = some_description d program p ss file sound in (described_answer told.0, inr (told.0, told.1, refl))
 
-check_sections : (program : List ℕ) → ((f : RxeFault) × IsRefusal (Broken program) rank f) ⊎ ((p : Parts) × IsFile program p) → (a : Answer) × CheckFile program a
-check_sections program (inl found) = (refused_answer (refusals.Sections found.0), inl (refusals.Sections found.0, found.1, refl))
-check_sections program (inr found) =
-    check_layout program found.0 found.1 (layout_or_refusal found.0)
+  described_code : (program : List ℕ) (p : Parts) (ss : Members) → IsFile program p → IsAccepted (layout_rules.Broken p) → HasShapes p ss →
+      ((f : CodeFault) × IsRefusal (code_rules.Broken (code_in p ss)) code_rules.rank f) ⊎ IsAccepted (code_rules.Broken (code_in p ss)) → (a : Answer) × DescribedFile d program a
+  described_code program p ss file layout shapes (inl found) =
+      (refused_answer (refusals.Code found.0), inl (refusals.Code found.0, (p, file, (layout, ss, shapes, found.1)), refl))
+  described_code program p ss file layout shapes (inr code) = described program p ss file (record { layout = layout; shapes = shapes; code = code })
 
-check_length : (long : Bool) (program : List ℕ) → AreBytes program → (a : Answer) × MatchBool long (a ≡ answer status.TooLarge [] []) (CheckFile program a)
-check_length true program bytes = (answer status.TooLarge [] [], refl)
-check_length false program bytes = check_sections program (file_or_refusal program bytes)
+  described_layout : (program : List ℕ) (p : Parts) → IsFile program p → ((f : LayoutFault) × IsRefusal (layout_rules.Broken p) layout_rules.rank f) ⊎ (IsAccepted (layout_rules.Broken p) × (ss : Members) × HasShapes p ss) → (a : Answer) × DescribedFile d program a
+  described_layout program p file (inl found) = (refused_answer (refusals.Layout found.0), inl (refusals.Layout found.0, (p, file, found.1), refl))
+  described_layout program p file (inr found) = described_code program p found.1 file found.0 found.2 (code_or_refusal (code_in p found.1))
 
--- some answer is due to every program
-some_check : (program : List ℕ) → AreBytes program → (a : Answer) × CheckOf program a
-some_check program bytes = check_length (nat_lt 262144 (length program)) program bytes
+  described_sections : (program : List ℕ) → ((f : RxeFault) × IsRefusal (Broken program) rank f) ⊎ ((p : Parts) × IsFile program p) → (a : Answer) × DescribedFile d program a
+  described_sections program (inl found) = (refused_answer (refusals.Sections found.0), inl (refusals.Sections found.0, found.1, refl))
+  described_sections program (inr found) = described_layout program found.0 found.1 (layout_or_refusal found.0)
 
--- nothing is written where a program isn't read to its end
-pub unread_check : (fault : ReadAllFault) (program : List ℕ) (w : Option (List ℕ)) → AreBytes program → (fault ≡ TooLarge → nat_lt 262144 (length program) ≡ true) →
-    (a : Answer) × CheckOf program a × Meets (read_status fault) a w w
-unread_check Failed program w bytes long = let due = some_check program bytes in (due.0, due.1, nothing_yet w due.0.report)
-unread_check NoMemory program w bytes long = let due = some_check program bytes in (due.0, due.1, nothing_yet w due.0.report)
-unread_check TooLarge program w bytes long = (answer status.TooLarge [] [], too_large (nat_lt 262144 (length program)) _ (long refl), (refl, Appends-none w))
+  described_length : (long : Bool) (program : List ℕ) → AreBytes program → (a : Answer) × MatchBool long (a ≡ answer status.TooLarge [] []) (DescribedFile d program a)
+  described_length true program bytes = (answer status.TooLarge [] [], refl)
+  described_length false program bytes = described_sections program (file_or_refusal program bytes)
 
-pub no_memory_check : (program : List ℕ) (w : Option (List ℕ)) → AreBytes program → (a : Answer) × CheckOf program a × Meets status.NoMemory a w w
-no_memory_check program w bytes = let due = some_check program bytes in (due.0, due.1, nothing_yet w due.0.report)
+  -- some answer is due to every program
+  some_answer : (program : List ℕ) → AreBytes program → (a : Answer) × Describes d program a
+  some_answer program bytes = described_length (nat_lt 262144 (length program)) program bytes
 
--- no image text is due to a check
-no_image_checked : (program : List ℕ) (a : Answer) → CheckFile program a → a.image ≡ []
-no_image_checked program a (inl refused) = ap (λ (x : Answer). x.image) refused.2
-no_image_checked program a (inr sound) = ap (λ (x : Answer). x.image) sound.2
+  -- nothing is written where a program isn't read to its end
+  pub unread_description : (fault : ReadAllFault) (program : List ℕ) (w : Option (List ℕ)) → AreBytes program → (fault ≡ TooLarge → nat_lt 262144 (length program) ≡ true) →
+      (a : Answer) × Describes d program a × Meets (read_status fault) a w w
+  unread_description Failed program w bytes long = let due = some_answer program bytes in (due.0, due.1, nothing_yet w due.0.report)
+  unread_description NoMemory program w bytes long = let due = some_answer program bytes in (due.0, due.1, nothing_yet w due.0.report)
+  unread_description TooLarge program w bytes long = (answer status.TooLarge [] [], too_large (nat_lt 262144 (length program)) _ (long refl), (refl, Appends-none w))
 
-no_image_within : (long : Bool) (program : List ℕ) (a : Answer) → MatchBool long (a ≡ answer status.TooLarge [] []) (CheckFile program a) → a.image ≡ []
-no_image_within true program a due = ap (λ (x : Answer). x.image) due
-no_image_within false program a due = no_image_checked program a due
+  pub no_memory_description : (program : List ℕ) (w : Option (List ℕ)) → AreBytes program → (a : Answer) × Describes d program a × Meets status.NoMemory a w w
+  no_memory_description program w bytes = let due = some_answer program bytes in (due.0, due.1, nothing_yet w due.0.report)
 
-pub no_image_check : (program : List ℕ) (a : Answer) → CheckOf program a → a.image ≡ []
-no_image_check program a due = no_image_within (nat_lt 262144 (length program)) program a due
+  -- no image text is due to a description
+  no_image_described : (program : List ℕ) (a : Answer) → DescribedFile d program a → a.image ≡ []
+  no_image_described program a (inl refused) = ap (λ (x : Answer). x.image) refused.2
+  no_image_described program a (inr told) = ap (λ (x : Answer). x.image) told.2
+
+  no_image_within : (long : Bool) (program : List ℕ) (a : Answer) → MatchBool long (a ≡ answer status.TooLarge [] []) (DescribedFile d program a) → a.image ≡ []
+  no_image_within true program a due = ap (λ (x : Answer). x.image) due
+  no_image_within false program a due = no_image_described program a due
+
+  pub no_image_description : (program : List ℕ) (a : Answer) → Describes d program a → a.image ≡ []
+  no_image_description program a due = no_image_within (nat_lt 262144 (length program)) program a due
 
 -- ---- commands
 

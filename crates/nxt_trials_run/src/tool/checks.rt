@@ -83,3 +83,39 @@ fn checked_files(rt: HostRuntime) -> Result<(), Fail> {
     let too_large = vec![in alloc; 0u8; 262_145]?;
     checked(&rt, alloc, too_large.as_slice(), Status::TooLarge, b"")
 }
+
+static LISTINGS: [Case<'static>; 3] = [
+    (
+        &MOTOR,
+        Status::Done,
+        b"header,3,3,3,3,0,0,0,0,0,1,10\ntoc,0,ubyte,0,0\ntoc,1,sbyte,0,1\ntoc,2,ubyte,0,2\nclump,0,0,0\ncode,0,setout,0,2,1,0,2\ncode,7,finclump,0,-1\n",
+    ),
+    (
+        &LIST,
+        Status::Done,
+        b"header,2,25,2,25,2,23,0,0,2,1,2\ntoc,0,array,0,0\ntoc,1,ubyte,0,0\nrow,0,2,10,2,0,0\nrow,1,22,1,3,0,0\nclump,0,0,0\ncode,0,jmp,0\n",
+    ),
+    (&EMPTY, Status::Refused, b"refused,19,0\n"),
+];
+
+// Listings, and the refusal of a file that breaks a rule.
+#[test]
+fn listed_files(rt: HostRuntime) -> Result<(), Fail> {
+    let alloc = rt.alloc();
+    let words = words_of(alloc, &[b"list", b"a"])?;
+    for (image, status, listing) in &LISTINGS {
+        let program = file_of(alloc, image)?;
+        let ended = command(
+            alloc,
+            words.as_slice(),
+            program.as_slice(),
+            b"foo",
+            WHOLE,
+            NONE,
+        )?;
+        assert_eq!(rt; ended.status, *status);
+        assert_eq!(rt; ended.report.as_slice(), *listing);
+        assert!(rt; ended.image.is_empty());
+    }
+    Ok(())
+}
