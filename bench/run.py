@@ -4,7 +4,7 @@
 The first cases run 4,000,000 bytecodes each. Then come scripts of 100,000 rows: the rows of every kind in turn; the longest
 rows, with empty lines between them up to 16,777,216 bytes; telegrams of every command in turn; telegrams that read the longest
 message; and telegrams that start a program again which has 2,000 lists, or 32,000 bytes. The last scripts have 16,777,216 bytes
-and no row. Prints the seconds, the greatest size of the process in memory, and the report's size and last line. With the name
+and no row, and the last case lists a program of 251,110 bytes. Prints the seconds, the greatest size of the process in memory, and the report's size and last line. With the name
 of a case that one alone is run. A size in memory below that of this script itself isn't seen.
 """
 import os
@@ -44,6 +44,8 @@ ROUND = image(
     [],
     [word for i in range(HOPS) for word in (0x4025, {1: 0xFFFE, HOPS - 2: 2}.get(i, 0xFFFC if i % 2 else 4))],
 )
+# 30,000 variables of one byte, and 32,767 jumps to themselves
+FULL = image([(1, 1, i) for i in range(30000)], 30000, [], [0x4025, 0] * 32767)
 # n slong, port ubyte 2: getin n, port, scaled value; jmp back
 SENSOR = image([(6, 1, 0), (1, 0, 4)], 5, [2], [0x8032, 0, 1, 4, 0x4025, 0xFFFC])
 # a cluster of one ulong: syscall GetStartTick; jmp back
@@ -151,6 +153,8 @@ CASES = (
     ("anew", LONG, lambda: in_turn(COMMANDS[:1])),
     ("empty", JUMP, lambda: filled([])),
     ("marks", JUMP, lambda: (b"\xef\xbb\xbf\n" for _ in range(BYTES // 4))),
+    # lists the program, and reads no script
+    ("list", FULL, None),
 )
 
 
@@ -166,13 +170,14 @@ def last_line(path):
 def run(nxt, name, program, script):
     with tempfile.TemporaryDirectory() as folder:
         paths = [os.path.join(folder, file) for file in ("program", "script", "report")]
-        for path, pieces in zip(paths, ([program], script)):
+        for path, pieces in zip(paths, ([program], script or ())):
             with open(path, "wb") as f:
                 f.writelines(pieces)
+        words = ["list", paths[0]] if script is None else ["run", "rxe"] + paths[:2]
         began = time.monotonic()
         child = os.posix_spawn(
             nxt,
-            [nxt, "run", "rxe"] + paths[:2],
+            [nxt] + words,
             os.environ,
             file_actions=[(os.POSIX_SPAWN_OPEN, 1, paths[2], os.O_WRONLY | os.O_CREAT, 0o600)],
         )
@@ -191,7 +196,7 @@ def main():
     nxt = os.path.abspath(sys.argv[1])
     for name, program, script in CASES:
         if sys.argv[2:] in ([], [name]):
-            run(nxt, name, program, script())
+            run(nxt, name, program, script and script())
 
 
 main()
