@@ -5,11 +5,11 @@ use std::alloc::Global;
 use std::test::Fail;
 
 /// The most bytes that a text may have.
-const MOST_BYTES: usize = 16_777_216;
+const LONGEST_TEXT: usize = 16_777_216;
 
 /// The tokens of a text. Of a longer one only the front is looked at.
 pub(crate) fn tokens_of(alloc: Global, text: &[u8]) -> Result<Tokens, NbcFault> {
-    lex(alloc, &text[..text.len().min(MOST_BYTES)])
+    lex(alloc, &text[..text.len().min(LONGEST_TEXT)])
 }
 
 /// A token as its line and its bytes.
