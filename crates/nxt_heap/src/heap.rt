@@ -60,13 +60,13 @@ impl Heap {
         })
     }
 
-    /// Frees every list, makes all static bytes 0, and sets the table to row 0 and free rows.
-    pub fn restart(&mut self, rows: u16)
-        requires rows { 1 ≤ rows }
-        requires fits { rounded (length self.old.lists.static_bytes) + rounded (10 * rows) ≤ pool_size }
-        ensures { self.new.lists ≡ zero_heap (length self.old.lists.static_bytes) rows }
+    /// Takes over all that another heap holds.
+    pub fn copy_from(&mut self, other: &Heap)
+        ensures { self.new ≡ other.now }
     {
-        self.end = start(&mut self.pool, self.static_size, rows);
+        self.pool.copy_from_slice(&other.pool);
+        self.static_size = other.static_size;
+        self.end = other.end;
     }
 
     /// The static bytes.

@@ -1,9 +1,36 @@
 // The parsed text of a program, with names as numbers.
 
 use nxt_types::instr::Op;
-use nxt_types::kind::Cmp;
+use nxt_types::kind::{Cmp, Kind};
 use nxt_types::lists::{Bytes, ListOf, Nums};
-use nxt_types::shape::Shape;
+
+/// What stands in the innermost arrays of a type.
+#[derive(Clone, Copy, PartialEq, Eq, Debug)]
+pub enum NbcBase {
+    Number(Kind),
+    Mutex,
+    /// A struct, by its position among the program's.
+    Struct(usize),
+}
+
+/// A type: its base, and how often it is made an array.
+#[derive(Clone, Copy, PartialEq, Eq, Debug)]
+pub struct NbcType {
+    pub base: NbcBase,
+    pub arrays: usize,
+}
+
+/// A list of types.
+pub type NbcTypes = ListOf<NbcType>;
+
+/// A struct, by the types of its members. Those of them that are structs stand before it.
+#[derive(Drop)]
+pub struct NbcStruct {
+    pub members: NbcTypes,
+}
+
+/// A list of structs.
+pub type NbcStructs = ListOf<NbcStruct>;
 
 /// A variable's starting value.
 #[derive(Drop)]
@@ -17,7 +44,7 @@ pub enum NbcStart {
 /// A declared variable.
 #[derive(Drop)]
 pub struct NbcVar {
-    pub shape: Shape,
+    pub shape: NbcType,
     pub start: NbcStart,
 }
 
@@ -64,9 +91,10 @@ pub type NbcBlocks = ListOf<NbcBlock>;
 /// A list of declared variables.
 pub type NbcVars = ListOf<NbcVar>;
 
-/// A parsed text.
+/// A parsed text. A struct stands once, however many variables have it.
 #[derive(Drop)]
 pub struct NbcProgram {
+    pub structs: NbcStructs,
     pub vars: NbcVars,
     pub blocks: NbcBlocks,
 }

@@ -3,5 +3,5 @@ pub mod Names
 pub mod RowsLaw
 pub mod FirstRow
 mod ScriptRows
--- No row of a script is a dump.
-pub mod PlainRows
+-- What the crates above may use: laws of a script's rows.
+pub mod Laws

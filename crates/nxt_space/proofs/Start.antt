@@ -1,7 +1,9 @@
 -- The variables at the start.
 
--- A file that is accepted gives its variables at the start.
+-- What an accepted file tells of its variables at the start.
 pub mod OfFile
+-- The variables of an accepted file are made at their start.
+pub mod Made
 -- Flat forms of what a file's memory reads as, element by element and member by member.
 pub mod FlatForms
 -- A heap without lists is filled with the variables of the start.

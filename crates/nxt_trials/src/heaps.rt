@@ -123,13 +123,14 @@ fn every_block_moves_with_its_bytes(rt: HostRuntime) -> Result<(), Fail> {
 }
 
 #[test]
-fn a_restart_leaves_zeros_and_free_rows(rt: HostRuntime) -> Result<(), Fail> {
+fn a_copied_heap_keeps_nothing_of_its_own(rt: HostRuntime) -> Result<(), Fail> {
+    let first = Heap::new(rt.alloc(), 6, 2)?;
     let mut heap = Heap::new(rt.alloc(), 6, 3)?;
     heap.set_static(2, &[5, 6, 7]);
     assert_eq!(rt; heap.static_bytes(), [0, 0, 5, 6, 7, 0].as_slice());
     heap.set_static(6, &[]);
     assert_eq!(rt; heap.new_array(1), Ok(1));
-    heap.restart(2);
+    heap.copy_from(&first);
     assert_eq!(rt; heap.static_bytes(), [0; 6].as_slice());
     assert_eq!(rt; heap.row_count(), 2);
     assert_eq!(rt; heap.table_place(), 8);

@@ -5,7 +5,7 @@ use Rattle.std.proofs.lemmas.List.{get_or-set_same, get_or-set_other, get_or-map
 use Rattle.std.specs.Int.{from_le_bytes}
 use Rattle.nxt_facts.specs.Places.{places_from}
 use Rattle.nxt_facts.proofs.Places.{length-places}
-use Rattle.nxt_types.specs.Arithmetic.{leaf_size, width_of, cut, extend}
+use Rattle.nxt_types.specs.Arithmetic.{leaf_size, width_of, cut}
 use Rattle.std.proofs.lemmas.Bool.{cases_eq, cases_order}
 use Rattle.nxt_types.proofs.Laws.Kinds.{cut-extend}
 use Rattle.nxt_types.specs.Pool.{round4}

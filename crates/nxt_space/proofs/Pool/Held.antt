@@ -1,6 +1,5 @@
 -- The pool of a heap that holds the variables reads as these.
 use Rattle.std.proofs.Common.{ℕ, List, sym, ap, subst}
-use Rattle.std.specs.Prelude.{ℤ}
 use Rattle.nxt_types.specs.Tables.{Table}
 use Rattle.nxt_model.specs.Values.{group_of}
 use Rattle.nxt_model.specs.Reading.{Memory, MembersRead}
@@ -16,8 +15,8 @@ use Rattle.nxt_space.proofs.Pool.Apart.{own_lists, apart_lists}
 use Rattle.nxt_space.proofs.Pool.Reads.{lists_in, members_read}
 use Rattle.nxt_values.proofs.Laws.Without.{Differ}
 
-pub pool_reads : (toc : Table) (h : Lists) (start : List ℤ) (start_rows : ℕ) (table : ℕ) (bytes : List ℕ) → Stand toc h → HoldHeap bytes table h → ReadsAsPool (variables_in toc h start start_rows) table bytes
-pool_reads toc h start start_rows table bytes e pool =
+pub pool_reads : (toc : Table) (h first : Lists) (table : ℕ) (bytes : List ℕ) → Stand toc h → HoldHeap bytes table h → ReadsAsPool (variables_in toc h first) table bytes
+pool_reads toc h first table bytes e pool =
     let m : Memory = record { entries = toc.entries; bytes = bytes; table = table } in
     let rows = rows_among toc.entries h toc.shapes 0 h.static_bytes 0 in
     let vs = values_among toc.entries h toc.shapes 0 h.static_bytes 0 in

@@ -1,10 +1,8 @@
--- A file that is accepted gives its variables at the start.
-use Rattle.std.proofs.Common.{◌≡◌, ℕ, zero, suc, ◌+◌, ◌*◌, ◌^◌, ◌<◌, ◌≤◌, Bool, true, false, ◌&&◌, not, ◌==◌, nat_le, nat_lt, List, [], ◌∷◌, map, max, replicate, length, if◌then◌else◌, inl, inr, None, refl, sym, ap, ap₂, ◌∙◌, subst, arith, append-nil, ltb-true}
+-- What an accepted file tells of its variables at the start.
+use Rattle.std.proofs.Common.{◌≡◌, ℕ, zero, suc, ◌+◌, ◌*◌, ◌^◌, ◌<◌, ◌≤◌, Bool, true, false, ◌&&◌, not, ◌==◌, nat_le, nat_lt, List, [], ◌∷◌, map, length, if◌then◌else◌, inl, inr, refl, sym, ap, ap₂, ◌∙◌, subst, arith, append-nil, ltb-true}
 use Rattle.std.specs.Prelude.{ℤ}
 use Rattle.std.specs.List.{list_all}
-use Rattle.std.proofs.Math.Nat.{le-max_left, le-max_right}
 use Rattle.std.proofs.lemmas.Bool.{and_parts, and_from, cases_lt}
-use Rattle.std.proofs.lemmas.List.{length-replicate}
 use Rattle.nxt_types.specs.Bytes.{u16_at}
 use Rattle.nxt_types.specs.Names.{size, sizes}
 use Rattle.nxt_types.specs.Shapes.{Shape, Void, Number, Array, Cluster, Mutex, Members, no_members, member, members, tree, some_list, SpellsAll}
@@ -13,7 +11,7 @@ use Rattle.nxt_types.specs.Tables.{Table}
 use Rattle.nxt_rxe.specs.declared.parts.Parts.{Parts}
 use Rattle.nxt_model.specs.Values.{Value, GroupOf, values, items, elements, flats, is_of, are_of, lists_in}
 use Rattle.nxt_model.specs.Footprint.{footprint, rows_for}
-use Rattle.nxt_types.specs.Pool.{round4, pool_size}
+use Rattle.nxt_types.specs.Pool.{pool_size}
 use Rattle.nxt_model.specs.Reading.{Memory, HeldList, EachReads, RowReads, Reads, MembersRead, ReadsAs, leaf_place, row_count}
 use Rattle.nxt_model.proofs.Laws.Values.{items-values}
 use Rattle.nxt_layout.specs.declared.fault.LayoutFault.TheVariants.{RowZero, PoolPassed}
@@ -24,14 +22,10 @@ use Rattle.nxt_layout.specs.LayoutRules.{Broken, has_table, PassesPool}
 use Rattle.nxt_layout.specs.Layouts.{FileLayout, layout_of, IsLayout}
 use Rattle.nxt_table.proofs.Laws.StrideFree.{size_of_table}
 use Rattle.nxt_layout.proofs.Laws.Rows.{same_rows}
-use Rattle.nxt_heap.specs.Lists.{Lists, zero_heap}
 use Rattle.nxt_space.specs.Inside.Starts.{memory_of}
 use Rattle.nxt_model.specs.Spans.{HasSpans}
-use Rattle.nxt_values.specs.Sizes.{IsCountable, size_of_all_filled}
-use Rattle.nxt_space.specs.Inside.Kept.{values_of, variables_in, started_as, rows_with, Stores, CanStart, IsKept}
-use Rattle.nxt_space.specs.Variables.{Variables, at_start}
+use Rattle.nxt_space.specs.Inside.Kept.{started_as}
 use Rattle.nxt_layout.proofs.Laws.Spans.{accepted_spans}
-use Rattle.nxt_values.proofs.Laws.Begun.{none_alive}
 use Rattle.nxt_values.proofs.Laws.Filled.{all_own}
 use Rattle.nxt_model.proofs.Laws.Numbers.{number_of_kind}
 
@@ -193,109 +187,3 @@ starting {t} {toc} {ss} {start} l file same few table shapes told =
           (sym is)
           (subst (λ (u : Table). footprint l.static_size (rows_for l.rows (lists_in vars)) u.shapes vars ≤ pool_size) (sym table) b.fits);
     }
-
--- ---- what the steps ask for
-
-pub start_countable : {toc : Table} {static_size rows : ℕ} {start zs : List ℤ} {ss : Members} → Starting toc static_size rows start → ss ≡ toc.shapes → zs ≡ start → IsCountable (size_of_all_filled ss zs)
-start_countable {toc} {static_size} {rows} {start} e shapes numbers =
-    let vars = started_as toc.shapes start in
-    let fits : footprint static_size (max rows (lists_in vars + 1)) toc.shapes vars ≤ pool_size = e.fits in
-    let most = le-max_right rows (lists_in vars + 1) in
-    let small : IsCountable (size_of_all_filled toc.shapes start) = record { lists = omega (arith, fits, most); bytes = omega (arith, fits) } in
-    subst IsCountable (sym (ap₂ size_of_all_filled shapes numbers)) small
-
-pub table_fits : {toc : Table} {static_size rows : ℕ} {start : List ℤ} → Starting toc static_size rows start → round4 static_size + round4 (10 * rows) ≤ pool_size
-table_fits {toc} {static_size} {rows} {start} e =
-    let vars = started_as toc.shapes start in
-    let fits : footprint static_size (max rows (lists_in vars + 1)) toc.shapes vars ≤ pool_size = e.fits in
-    omega (arith, fits, le-max_left rows (lists_in vars + 1))
-
-pub few_lists : {toc : Table} {static_size rows n : ℕ} {start : List ℤ} → Starting toc static_size rows start → n ≡ lists_in (started_as toc.shapes start) → n + 1 < 2 ^ 16
-few_lists {toc} {static_size} {rows} {n} {start} e lists =
-    let vars = started_as toc.shapes start in
-    let fits : footprint static_size (max rows (lists_in vars + 1)) toc.shapes vars ≤ pool_size = e.fits in
-    omega (arith, fits, lists, le-max_right rows (lists_in vars + 1))
-
--- they start with the rows of the start as they do with the file's
-pub with_rows : {toc : Table} {static_size rows n many : ℕ} {start : List ℤ} → Starting toc static_size rows start → n ≡ lists_in (started_as toc.shapes start) → many ≡ rows_for rows n → Starting toc static_size many start
-with_rows {toc} {static_size} {rows} {n} {many} {start} e lists rows_are =
-    let vars = started_as toc.shapes start in
-    let same : rows_for many (lists_in vars) ≡ rows_for rows (lists_in vars) = omega (arith, lists, rows_are) in
-    record {
-      entries = e.entries;
-      spelled = e.spelled;
-      spans = e.spans;
-      some = omega (arith, rows_are);
-      fits = subst (λ k. footprint static_size k toc.shapes vars ≤ pool_size) (sym same) e.fits;
-    }
-
--- the heap is the one of the start
-pub same_heap : {h : Lists} {m n static_size rows : ℕ} → h ≡ zero_heap m n → m ≡ static_size → n ≡ rows → h ≡ zero_heap static_size rows
-same_heap e long many = e ∙ ap₂ zero_heap long many
-
-pub can_start : {toc : Table} {static_size rows : ℕ} {start zs : List ℤ} {ss : Members} {h : Lists} → Starting toc static_size rows start → ss ≡ toc.shapes → h ≡ zero_heap static_size rows → zs ≡ start → CanStart toc ss h zs
-can_start {toc} {static_size} {rows} {start} {zs} {ss} e shapes heap numbers =
-    let vars = started_as toc.shapes start in
-    let n = length (zero_heap static_size rows).by_row in
-    let long : length (replicate static_size 0) ≡ static_size = length-replicate static_size 0 in
-    let many : n ≡ rows = length-replicate rows None in
-    let can : CanStart toc ss (zero_heap static_size rows) start = record {
-      entries = e.entries;
-      variables = shapes;
-      spelled = e.spelled;
-      spans = subst (HasSpans toc.entries toc.shapes) (sym long) e.spans;
-      empty = none_alive static_size rows;
-      fits = subst
-          (λ k. footprint k (max n (lists_in vars + 1)) toc.shapes vars ≤ pool_size)
-          (sym long)
-          (subst (λ k. footprint static_size (max k (lists_in vars + 1)) toc.shapes vars ≤ pool_size) (sym many) e.fits);
-    } in
-    subst (λ k. CanStart toc ss k zs) (sym heap) (subst (CanStart toc ss (zero_heap static_size rows)) (sym numbers) can)
-
--- ---- what holds from then on
-
-pub start_kept : {toc : Table} {ss : Members} {h g : Lists} {start zs : List ℤ} {at n : ℕ} → CanStart toc ss h zs → Stores toc h g (started_as toc.shapes zs) → zs ≡ start → at ≡ length g.by_row → n ≡ lists_in (started_as toc.shapes zs) → IsKept toc ss g start at n
-start_kept {toc} {ss} {h} {g} {start} {zs} {at} {n} can stores numbers rows lists =
-    let vars = started_as toc.shapes zs in
-    let most = le-max_right (length h.by_row) (lists_in vars + 1) in
-    let same : at ≡ rows_with h vars = rows ∙ stores.rows in
-    let kept : IsKept toc ss g zs at n = record {
-      stand = stores.stand;
-      variables = can.variables;
-      lists = lists ∙ ap lists_in (sym stores.values);
-      rows = omega (arith, lists, most, stores.rows);
-      start_rows = omega (arith, most, same);
-      start_fits = subst
-          (λ k. footprint k at toc.shapes vars ≤ pool_size)
-          (sym stores.long)
-          (subst (λ k. footprint (length h.static_bytes) k toc.shapes vars ≤ pool_size) (sym same) can.fits);
-    } in
-    subst (λ ns. IsKept toc ss g ns at n) numbers kept
-
-abbrev seen_at : Table → ℕ → Value → Value → ℕ → ℕ → Variables
-seen_at toc static_size start vars start_rows rows =
-    record {
-      entries = toc.entries;
-      shapes = toc.shapes;
-      static_size = static_size;
-      start = start;
-      start_rows = start_rows;
-      values = vars;
-      rows = rows;
-    }
-
--- these are the variables at the start
-pub start_seen : {toc : Table} {h g : Lists} {start zs : List ℤ} {vars : Value} {at many : ℕ} (l : FileLayout) → toc ≡ table_of l → started_as toc.shapes start ≡ vars → h ≡ zero_heap l.static_size many → many ≡ rows_for l.rows (lists_in vars) → zs ≡ start → Stores toc h g (started_as toc.shapes zs) → at ≡ length g.by_row → variables_in toc g start at ≡ at_start l vars
-start_seen {toc} {h} {g} {start} {zs} {vars} {at} {many} l table is heap for numbers stores rows =
-    let now : started_as toc.shapes zs ≡ vars = ap (started_as toc.shapes) numbers ∙ is in
-    let long : length g.static_bytes ≡ l.static_size =
-    stores.long ∙ ap (λ (k : Lists). length k.static_bytes) heap ∙ length-replicate l.static_size 0
-    in
-    let had : length h.by_row ≡ many = ap (λ (k : Lists). length k.by_row) heap ∙ length-replicate many None in
-    let have : length g.by_row ≡ max many (lists_in vars + 1) =
-    stores.rows ∙ ap₂ (λ (n k : ℕ). max n (k + 1)) had (ap lists_in now)
-    in
-    let all : length g.by_row ≡ rows_for l.rows (lists_in vars) = omega (arith, have, for) in
-    ap₂ (λ t n. seen_at t n (started_as toc.shapes start) (values_of toc g) at (length g.by_row)) table long
-    ∙ ap₂ (λ v w. seen_at (table_of l) l.static_size v w at (length g.by_row)) is (stores.values ∙ now)
-    ∙ ap₂ (seen_at (table_of l) l.static_size vars vars) (rows ∙ all) all

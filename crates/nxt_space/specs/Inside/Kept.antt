@@ -21,27 +21,27 @@ use Rattle.nxt_space.specs.Variables.{Variables, SpaceViews, shape_by, value_by,
 abbrev pub started_as : Members → List ℤ → Value
 started_as ss zs = GroupOf (all_filled ss zs).0
 
--- those in a heap, where the numbers spell the start, at which there were so many rows
-abbrev pub variables_in : Table → Lists → List ℤ → ℕ → Variables
-variables_in toc h start start_rows =
-    record {
-      entries = toc.entries;
-      shapes = toc.shapes;
-      static_size = length h.static_bytes;
-      start = started_as toc.shapes start;
-      start_rows = start_rows;
-      values = values_in toc.entries toc.shapes h;
-      rows = length h.by_row;
-    }
-
--- both views of them
-abbrev pub views_in : Table → HeapViews → List ℤ → ℕ → SpaceViews
-views_in toc h start start_rows = record { vars = variables_in toc h.lists start start_rows; pool = h.pool }
-
 -- ---- variables in a heap
 
 abbrev pub values_of : Table → Lists → Value
 values_of toc h = values_in toc.entries toc.shapes h
+
+-- those in a heap, where another one is the heap at the start
+abbrev pub variables_in : Table → Lists → Lists → Variables
+variables_in toc h first =
+    record {
+      entries = toc.entries;
+      shapes = toc.shapes;
+      static_size = length h.static_bytes;
+      start = values_of toc first;
+      start_rows = length first.by_row;
+      values = values_of toc h;
+      rows = length h.by_row;
+    }
+
+-- both views of them
+abbrev pub views_in : Table → HeapViews → Lists → SpaceViews
+views_in toc h first = record { vars = variables_in toc h.lists first; pool = h.pool }
 
 -- the shape that begins at an entry, and its value
 abbrev pub shape_in : Table → ℕ → Shape
@@ -85,14 +85,19 @@ pub record CanStart (toc : Table) (ss : Members) (h : Lists) (start : List ℤ) 
   pub empty : (row : ℕ) → IsAlive h row → ⊥
   pub fits : bytes_with toc h (started_as toc.shapes start) ≤ pool_size
 
--- the heap holds the variables, in which there are so many lists, and could hold those of the start
-pub record IsKept (toc : Table) (ss : Members) (h : Lists) (start : List ℤ) (at_start n : ℕ) : Type 0 where
+-- the heap at the start has as many static bytes as the other one, and holds variables in which there are so many lists
+pub record HoldsStart (toc : Table) (h first : Lists) (n : ℕ) : Type 0 where
+  pub stand : Stand toc first
+  pub long : length first.static_bytes ≡ length h.static_bytes
+  pub lists : n ≡ lists_in (values_of toc first)
+  pub rows : n < length first.by_row
+
+-- the heap holds the variables, in which there are so many lists, and the heap at the start those of the start
+pub record IsKept (toc : Table) (h first : Lists) (n first_n : ℕ) : Type 0 where
   pub stand : Stand toc h
-  pub variables : ss ≡ toc.shapes
   pub lists : n ≡ lists_in (values_of toc h)
   pub rows : n < length h.by_row
-  pub start_rows : lists_in (started_as toc.shapes start) < at_start
-  pub start_fits : footprint (length h.static_bytes) at_start toc.shapes (started_as toc.shapes start) ≤ pool_size
+  pub start : HoldsStart toc h first first_n
 
 -- a value of the shape stands at a place
 pub record IsThere (toc : Table) (h : Lists) (s : Shape) (at : Place) : Type 0 where

@@ -13,7 +13,7 @@ use Rattle.nxt_model.proofs.Laws.Reports.{AllPlain, plain_tells}
 use Rattle.nxt_model.specs.declared.event.ScriptRow.{ScriptRow}
 use Rattle.nxt_model.specs.declared.event.ScriptRow.TheVariants.{Run, One}
 use Rattle.nxt_script.specs.Rows.{rows}
-use Rattle.nxt_script.proofs.PlainRows.{IsPlain, ArePlain, rows_plain}
+use Rattle.nxt_script.proofs.Laws.PlainRows.{IsPlain, ArePlain, rows_plain}
 use Rattle.nxt_tool.specs.Running.{Held, held, stepped_held, after, after_all, text_from, text_of_rows, report}
 
 text_both : (h : Held) (es fs : List Event) → text_from h (es ++ fs) ≡ text_from h es ++ text_from (after_all h es) fs

@@ -17,8 +17,8 @@ pub fill_members-filled-requires-clause-entries : goal.fill_members-filled-requi
 fill_members-filled-requires-clause-entries c =
     start_entries c.args.toc.now (members (map tree c.args.variables.now)) c.args.heap.now.lists c.args.start.now c.requires
 
-pub returns-clause-stores : goal.returns-clause-stores
-returns-clause-stores c =
+pub returns : goal.returns
+returns c =
     let toc = c.args.toc.now in
     let ss = members (map tree c.args.variables.now) in
     let h = c.args.heap.now.lists in
@@ -27,7 +27,7 @@ returns-clause-stores c =
     let e = c.fill_members-filled.ensures in
     let went = not_passed c.fill_members-filled.result pool_size (needs_for_all h ss start) (footprint g ≤ pool_size) (λ rest. FillsAll c.entries.result.now h g ss 0 Static 0 start rest.now) (start_fits toc ss h start c.requires) e.pool e.passed e.filled in
     let filled = subst (λ table. FillsAll table h g ss 0 Static 0 start went.1.0.now) c.entries.ensures went.1.1 in
-    let some : 1 ≤ length g.by_row = omega (arith, c.row_count.ensures.rows, c.row_count.ensures.some) in
+    let some : 1 ≤ length g.by_row = omega (arith, c.row_count-rows.ensures.rows, c.row_count-rows.ensures.some) in
     start_stored toc ss h g start went.1.0.now c.requires filled went.0 some c.is_sound.ensures
 
 -- what holds of an error holds where there is no answer
