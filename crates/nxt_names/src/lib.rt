@@ -1,0 +1,23 @@
+//! What the text of a program declares, and what its names stand for (NBC Programmer's Guide, "Program Structure").
+#![tactic(auto)]
+
+mod blocks;
+mod extent;
+mod header;
+mod labels;
+mod members;
+mod name_table;
+mod reading;
+mod source;
+mod structs;
+mod variables;
+
+pub use blocks::{Block, Blocks};
+pub use extent::Extent;
+pub use header::{constant, is_header_name};
+pub use labels::{Label, Labels, is_statement};
+pub use members::{Member, Members};
+pub use name_table::NameTable;
+pub use source::Source;
+pub use structs::{Struct, StructTable};
+pub use variables::{Variable, Variables};
