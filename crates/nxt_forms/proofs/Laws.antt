@@ -20,6 +20,10 @@ pub mod HeldRules
 pub mod HeldSame
 -- The lines of a text's forms ascend.
 pub mod Ascending
+-- The lines of a text have as many operands as they may have.
+pub mod Whole
+-- The classes of a statement's operands, by their positions.
+pub mod Classes
 -- The line of the first form that a test finds is the least line at which it finds a form.
 pub mod FirstLines
 -- The least lines at which rules are broken, by the first forms that break them.

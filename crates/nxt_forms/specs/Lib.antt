@@ -12,3 +12,5 @@ pub mod Places
 pub mod Lines
 -- The first form that breaks a rule, and the rules that are kept.
 pub mod Firsts
+-- Lines that have as many operands as they may have.
+pub mod Whole

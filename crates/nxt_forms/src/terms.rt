@@ -4,6 +4,7 @@ ghost use Rattle.std.specs.Prelude.{◌≡◌, ◌<◌, ◌∷◌, not, length, 
 ghost use Rattle.std.specs.List.{prefix_len};
 ghost use Rattle.nxt_model.specs.Nbc.Forms.{all_of, by_commas, is_sign, number_of, numbers_of, path_of, term_of, terms_of};
 ghost use Rattle.nxt_forms.specs.Seen.{names_seen, path_seen, pieces_in, term_seen, terms_seen, word_seen, words_seen};
+ghost use Rattle.nxt_forms.specs.Statements.{single_name};
 
 use crate::words::Word;
 use nxt_types::NoMemory;
@@ -19,6 +20,21 @@ pub enum Term<'a> {
     Named(Names<'a>),
     Literal(i64),
     Quote(&'a [u8]),
+}
+
+impl<'a> Term<'a> {
+    /// The name, where the operand is one without members.
+    pub fn single_name(&self) -> Option<&'a [u8]>
+        ensures { option_map (λ n. n.now) result ≡ single_name (term_seen self.now) }
+    {
+        match self {
+            Term::Named(names) => match names.as_slice() {
+                [name] => Some(*name),
+                _ => None,
+            },
+            _ => None,
+        }
+    }
 }
 
 /// A list of operands.

@@ -16,6 +16,8 @@ mod StructTables
 mod PlainTypes
 -- The shape that a name stands for.
 mod NamedShapes
+-- The members of structs as they are declared.
+mod MemberPlaces
 -- The structs of the header, one behind another.
 mod HeaderRows
 -- The lines of a block.
@@ -28,3 +30,5 @@ mod LabelNames
 mod VariableLines
 -- Structs that are read line by line.
 mod ReadLines
+-- What names stand for, by their parts.
+mod NamesDenoted

@@ -5,7 +5,7 @@ use Rattle.std.proofs.lemmas.Bool.Decides.{nat_tests}
 use Rattle.nxt_types.specs.Shapes.{Void}
 use Rattle.nxt_model.specs.Nbc.Types.{Struct, named_shape, one_of, plain_type, shape_of_struct, struct_named, types_at}
 use Rattle.nxt_names.specs.Structs.{Types, declared, is_before, shapes_of, structs_in}
-use Rattle.nxt_names.proofs.Laws.Types.{declared_named}
+use Rattle.nxt_names.proofs.Laws.Types.{declared_named, struct_first}
 use Rattle.nxt_names.proofs.StructPlaces.{position_of}
 
 -- a position lies within the list
@@ -21,18 +21,39 @@ shape_at [] i under = absurd (omega arith)
 shape_at (x ∷ xs) zero under = refl
 shape_at (x ∷ xs) (suc i) under = shape_at xs i (omega arith)
 
-module _ (t : Types) (line : ℕ) (name : List ℕ) (plain : None ≡ plain_type name) where
-  named_by : (o : Option ℕ) → o ≡ position (is_before line name) (declared t)
-      → named_shape (types_at (structs_in t) line) name ≡ option_map shape_of_struct (option_and_then (slice_get (structs_in t)) o)
+-- types among which a name stands for the first struct of a text that passes a test
+module _ (t : Types) (name : List ℕ) (plain : None ≡ plain_type name) (types : List Struct) (passes : ℕ → List ℕ → Bool)
+    (first : struct_named types name ≡ option_and_then (slice_get (structs_in t)) (position (λ d. passes d.line d.name) (declared t))) where
+  named_by : (o : Option ℕ) → o ≡ position (λ d. passes d.line d.name) (declared t)
+      → named_shape types name ≡ option_map shape_of_struct (option_and_then (slice_get (structs_in t)) o)
   named_by o e =
-      ap (λ p. one_of p (struct_named (types_at (structs_in t) line) name)) (sym plain)
-      ∙ ap (option_map shape_of_struct) (declared_named t line name ∙ ap (option_and_then (slice_get (structs_in t))) (sym e))
+      ap (λ p. one_of p (struct_named types name)) (sym plain)
+      ∙ ap (option_map shape_of_struct) (first ∙ ap (option_and_then (slice_get (structs_in t))) (sym e))
+
+  none_by : None ≡ position (λ d. passes d.line d.name) (declared t) → None ≡ named_shape types name
+  none_by e = sym (named_by None e)
+
+  struct_by : (i : ℕ) → Some i ≡ position (λ d. passes d.line d.name) (declared t) → Some (slice_index_or (shapes_of (declared t)) i Void) ≡ named_shape types name
+  struct_by i e =
+      let inside = position_inside (λ (s : Struct). passes s.line s.name) (structs_in t) i (position_of passes (declared t) ∙ sym e) in
+      shape_at (structs_in t) i inside ∙ sym (named_by (Some i) e)
+
+-- before a line
+module _ (t : Types) (line : ℕ) (name : List ℕ) (plain : None ≡ plain_type name) where
+  abbrev there : ℕ → List ℕ → Bool
+  there l n = nat_lt l line && bytes_eq n name
 
   pub named_none : None ≡ position (is_before line name) (declared t) → None ≡ named_shape (types_at (structs_in t) line) name
-  named_none e = sym (named_by None e)
+  named_none e = none_by t name plain (types_at (structs_in t) line) there (declared_named t line name) e
 
   pub named_struct : (i : ℕ) → Some i ≡ position (is_before line name) (declared t)
       → Some (slice_index_or (shapes_of (declared t)) i Void) ≡ named_shape (types_at (structs_in t) line) name
-  named_struct i e =
-      let inside = position_inside (λ (s : Struct). nat_lt s.line line && bytes_eq s.name name) (structs_in t) i (position_of (λ l n. nat_lt l line && bytes_eq n name) (declared t) ∙ sym e) in
-      shape_at (structs_in t) i inside ∙ sym (named_by (Some i) e)
+  named_struct i e = struct_by t name plain (types_at (structs_in t) line) there (declared_named t line name) i e
+
+-- in the whole text
+module _ (t : Types) (name : List ℕ) (plain : None ≡ plain_type name) where
+  pub first_none : None ≡ position (λ d. bytes_eq d.name name) (declared t) → None ≡ named_shape (structs_in t) name
+  first_none e = none_by t name plain (structs_in t) (λ l n. bytes_eq n name) (struct_first t name) e
+
+  pub first_struct : (i : ℕ) → Some i ≡ position (λ d. bytes_eq d.name name) (declared t) → Some (slice_index_or (shapes_of (declared t)) i Void) ≡ named_shape (structs_in t) name
+  first_struct i e = struct_by t name plain (structs_in t) (λ l n. bytes_eq n name) (struct_first t name) i e

@@ -1,5 +1,6 @@
 -- Where a name stands among structs.
-use Rattle.std.proofs.Common.{◌≡◌, ℕ, suc, ◌+◌, ◌≤◌, Bool, true, false, ◌&&◌, cond, filter, find, nat_lt, bytes_eq, List, [], ◌∷◌, ◌++◌, length, position, slice_get, slice_index_or, Option, Some, None, option_map, option_and_then, refl, sym, ap, ◌∙◌, arith}
+use Rattle.std.proofs.Common.{◌≡◌, ℕ, suc, ◌+◌, ◌≤◌, Bool, true, false, ◌&&◌, ◌||◌, cond, filter, find, nat_lt, bytes_eq, List, [], ◌∷◌, ◌++◌, length, position, slice_get, slice_index_or, Option, Some, None, is_some, option_map, option_and_then, refl, sym, ap, ◌∙◌, arith}
+use Rattle.std.specs.List.{list_any}
 use Rattle.std.specs.Option.{option_or}
 use Rattle.std.proofs.lemmas.Bool.Decides.{nat_tests}
 use Rattle.nxt_model.specs.Nbc.Types.{Struct}
@@ -41,6 +42,23 @@ find_placed p (x ∷ xs) =
     by true o = refl
     by false None = refl
     by false (Some i) = refl
+
+-- one passes where a first one has a position
+pub any_placed : {X : Type 0} (f : ℕ → ℕ) (p : X → Bool) (xs : List X) (o : Option ℕ) → o ≡ option_map f (position p xs) → is_some o ≡ list_any p xs
+any_placed f p xs o e = ap is_some e ∙ mapped (position p xs) ∙ by xs
+  where
+    mapped : (o : Option ℕ) → is_some (option_map f o) ≡ is_some o
+    mapped None = refl
+    mapped (Some i) = refl
+
+    first : (b : Bool) (o : Option ℕ) → is_some (cond b (Some 0) (option_map suc o)) ≡ (b || is_some o)
+    first true o = refl
+    first false None = refl
+    first false (Some i) = refl
+
+    by : (ys : List _) → is_some (position p ys) ≡ list_any p ys
+    by [] = refl
+    by (y ∷ ys) = ap is_some (position_front p y ys) ∙ first (p y) (position p ys) ∙ ap (λ b. p y || b) (by ys)
 
 -- among what is kept
 pub find_kept : {X : Type 0} (p q : X → Bool) (xs : List X) → find p (filter q xs) ≡ find (λ x. q x && p x) xs

@@ -24,3 +24,9 @@ pub mod BlocksSeen
 pub mod Reading
 -- What a text declares, as the definitions see it.
 pub mod SourceSeen
+-- The members of types, one step at a time.
+pub mod Members
+-- Blocks by their names.
+pub mod Denoted
+-- What an operand of the program stands for, as the definitions see it.
+pub mod DenotedSeen

@@ -2,17 +2,20 @@
 #![tactic(auto)]
 
 mod blocks;
+mod denoted;
 mod extent;
 mod header;
 mod labels;
 mod members;
 mod name_table;
+mod named;
 mod reading;
 mod source;
 mod structs;
 mod variables;
 
 pub use blocks::{Block, Blocks};
+pub use denoted::{Denoted, Part};
 pub use extent::Extent;
 pub use header::{constant, is_header_name};
 pub use labels::{Label, Labels, is_statement};

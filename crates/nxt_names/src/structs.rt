@@ -4,6 +4,7 @@ ghost use Rattle.std.specs.Prelude.{◌≡◌, [], ◌∷◌, ◌++◌, ◌+◌,
 ghost use Rattle.nxt_types.specs.Shapes.{Mutex, Shape, members as members_of};
 ghost use Rattle.nxt_model.specs.TextProgram.{base_shape, shape_by};
 ghost use Rattle.nxt_model.specs.Nbc.Types.{is_type as is_type_among, named_shape, plain_type as plain_type_of, plain_types, shape_of, types_at};
+ghost use Rattle.nxt_model.specs.Nbc.Text.{included_before};
 ghost use Rattle.nxt_forms.specs.Seen.{type_seen};
 ghost use Rattle.nxt_names.specs.Extents.{extent_of, extent_of_all};
 ghost use Rattle.nxt_names.specs.Structs.{Rises, declared, header_declared, header_member, is_before, shape_in, shapes_of, structs_in};
@@ -161,8 +162,8 @@ const NUMBER_TYPES: [NumberType; 14] = [
     ("slong", Kind::Slong),
 ];
 
-// The number or mutex that a type's name stands for.
-fn plain_type(name: &[u8]) -> Option<NbcBase>
+/// The number or mutex that a type's name stands for.
+pub(crate) fn plain_type(name: &[u8]) -> Option<NbcBase>
     ensures named { option_map (base_shape []) result ≡ plain_type_of name.now }
     ensures plain { IfSome result (λ b. (ss : List Shape) → base_shape ss b ≡ base_shape [] b) }
 {
@@ -223,6 +224,16 @@ impl<'a> StructTable<'a> {
         self.included.is_some()
     }
 
+    /// Whether the text includes NXTDefs.h before a line.
+    pub(crate) fn is_included_before(&self, line: u32) -> bool
+        ensures { result ≡ included_before self.now.included line }
+    {
+        match self.included {
+            Some(included) => included < line,
+            None => false,
+        }
+    }
+
     /// The structs in the order of their declarations, the header's in front.
     pub fn as_slice(&self) -> &[Struct<'a>]
         ensures { structs_seen result.now ≡ declared self.now }
@@ -270,8 +281,8 @@ impl<'a> StructTable<'a> {
         }
     }
 
-    // The position of the first struct of a name among the text's own.
-    fn own_position(&self, name: &'a [u8]) -> Option<usize>
+    /// The position of the first struct of a name among the text's own.
+    pub(crate) fn own_position(&self, name: &'a [u8]) -> Option<usize>
         ensures { result ≡ option_map (λ i. i + length (header_declared self.now.included)) (position (λ s. bytes_eq s.name name.now) self.now.own) }
     {
         Some(self.own.position(name)? + self.header_len())

@@ -6,3 +6,5 @@ pub mod Spaces
 pub mod Faults
 -- What the program tells of names.
 pub mod SpacesSeen
+-- Rules that are kept one after another.
+pub mod Checked

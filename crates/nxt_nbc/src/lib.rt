@@ -1,11 +1,11 @@
-//! The rules of NBC texts (NBC Programmer's Guide): each finds the first line at which it is broken.
+//! Programs in NBC (NBC Programmer's Guide): `parse` gives the program that a text spells, or the first rule that it breaks.
 #![tactic(auto)]
 
-mod check;
 mod lines;
+mod rules;
 mod spaces;
 mod syntax;
+mod text;
+mod unknown;
 
-pub use check::check_syntax;
-pub use spaces::{Declarations, declarations_of};
-pub use syntax::bad_line;
+pub use text::parse;

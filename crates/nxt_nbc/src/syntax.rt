@@ -5,8 +5,9 @@ ghost use Rattle.nxt_model.specs.Nbc.Forms.{is_byte_name};
 ghost use Rattle.nxt_model.specs.Nbc.Text.{source_of};
 ghost use Rattle.nxt_model.specs.Nbc.Types.{is_type, shape_of, types_at};
 ghost use Rattle.nxt_model.specs.Nbc.NbcRules.{Syntax, is_too_large, tells};
-ghost use Rattle.nxt_forms.specs.Firsts.{Ascends, IsLeast, first_line};
+ghost use Rattle.nxt_forms.specs.Firsts.{IsLeast, first_line};
 ghost use Rattle.nxt_forms.specs.Seen.{form_seen, formed_seen, line_form_seen, type_seen};
+ghost use Rattle.nxt_forms.specs.Whole.{AreLines};
 ghost use Rattle.nxt_names.specs.SourceSeen.{source_seen};
 ghost use Rattle.nxt_names.specs.Structs.{structs_in};
 ghost use Rattle.nxt_nbc.specs.Syntax.{is_bad_form};
@@ -19,7 +20,7 @@ use nxt_names::{Source, StructTable};
 /// members, that declares too large a type, or that gives a text to a list of numbers that aren't bytes.
 pub fn bad_line<'a>(formed: &Formed<'a>, source: &Source<'_, 'a>) -> Option<u32>
     requires of { source_seen source.now ≡ source_of (formed_seen formed.now).forms }
-    requires ascends { Ascends 0 (formed_seen formed.now).forms }
+    requires lines { AreLines (formed_seen formed.now).forms }
     ensures { IsLeast (λ l. tells (formed_seen formed.now) (Syntax l)) result }
 {
     lesser(

@@ -1,5 +1,5 @@
 -- What the names of a text stand for, and the program that it spells.
-use Rattle.std.specs.Prelude.{ℕ, ◌+◌, ◌%◌, Bool, true, false, ◌&&◌, ◌||◌, not, if◌then◌else◌, ◌==◌, nat_lt, List, [], ◌∷◌, ◌++◌, map, zip, filter, find, filter_map, flat_map, count_by, length, codes, bytes_eq, slice_get, ℤ, pos, int_lt, int_le, nat_abs, Option, Some, None, is_some, option_map, option_and_then, unwrap_or, option_to_list}
+use Rattle.std.specs.Prelude.{ℕ, ◌+◌, ◌%◌, Bool, true, false, ◌&&◌, ◌||◌, not, if◌then◌else◌, ◌==◌, nat_lt, List, [], ◌∷◌, ◌++◌, map, zip, filter, find, filter_map, flat_map, count_by, length, drop, codes, bytes_eq, slice_get, ℤ, pos, int_lt, int_le, nat_abs, Option, Some, None, is_some, option_map, option_and_then, unwrap_or, option_to_list}
 use Rattle.std.specs.List.{list_any, position, enumerate_from}
 use Rattle.nxt_types.specs.Arithmetic.{cut}
 use Rattle.nxt_types.specs.Shapes.{Shape}
@@ -14,7 +14,7 @@ use Rattle.nxt_types.specs.declared.kind.Kind.TheVariants.{Slong}
 use Rattle.nxt_model.specs.Nbc.Forms as forms
 use Rattle.nxt_model.specs.Nbc.Forms.{Form, Term, Named, Literal, Quote, TypeName, Given}
 use Rattle.nxt_model.specs.Nbc.Types.{Struct, types_from, types_at, shape_of, member_path, Found}
-use Rattle.nxt_model.specs.Nbc.Header.{header_types, constant_named}
+use Rattle.nxt_model.specs.Nbc.Header.{header_types, constant_named, header_struct_named}
 use Rattle.nxt_model.specs.declared.nbc.NbcStart.{NbcStart}
 use Rattle.nxt_model.specs.declared.nbc.NbcStart.TheVariants as starts
 use Rattle.nxt_model.specs.declared.nbc.NbcArg.{NbcArg}
@@ -145,12 +145,14 @@ other_name (Some n) b k is_type [] = ANumber (pos n)
 other_name None (Some b) (Some k) is_type [] = ABlock k b.subroutine
 other_name None b k is_type [] = if is_type then AType else Missing
 
+-- the structs of the text's own, behind those of the header
+abbrev pub own_types : Source → List Struct
+own_types src = drop (length (header_at src.included)) src.types
+
 -- the name of a struct; the header's are known behind its line
 abbrev pub is_struct_at : Source → ℕ → List ℕ → Bool
 is_struct_at src line name =
-    list_any
-    (λ s. bytes_eq s.name name && (not (is_some src.included && (unwrap_or src.included 0 == s.line)) || nat_lt s.line line))
-    src.types
+    (is_included_at src line && is_some (header_struct_named name)) || list_any (λ s. bytes_eq s.name name) (own_types src)
 
 abbrev pub by_variable : Source → ℕ → Option ℕ → List ℕ → List (List ℕ) → Denoted
 by_variable src line (Some i) name ns = path_in src i ns (slice_get src.vars i)

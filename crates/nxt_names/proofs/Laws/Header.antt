@@ -1,12 +1,10 @@
 -- The structs of NXTDefs.h, as they are declared, are those that the definitions give.
-use Rattle.std.proofs.Common.{◌≡◌, ℕ, suc, ◌+◌, Bool, true, false, not, cond, nat_lt, List, [], ◌∷◌, length, map, find, position, bytes_eq, Option, Some, None, is_some, option_map, refl, sym, ap, ◌∙◌}
-use Rattle.std.specs.List.{prefix_len, position_or_len}
-use Rattle.std.proofs.lemmas.List.{length-map}
+use Rattle.std.proofs.Common.{◌≡◌, ℕ, suc, Bool, true, false, cond, List, [], ◌∷◌, length, map, find, position, bytes_eq, Option, Some, None, is_some, option_map, refl, sym, ap, ◌∙◌}
 use Rattle.nxt_model.specs.Nbc.Header.{header_types, header_struct_named}
 use Rattle.nxt_model.specs.Nbc.Text.{header_at}
 use Rattle.nxt_names.specs.HeaderSeen.{header_rows, header_names}
 use Rattle.nxt_names.specs.Structs.{structs_of, header_declared}
-use Rattle.nxt_names.proofs.Positions.{position_front}
+use Rattle.nxt_names.proofs.Positions.{position_front, position_map}
 
 -- ---- structs
 
@@ -18,16 +16,6 @@ pub header_length : length header_rows ≡ 17
 header_length = refl
 
 -- ---- names
-
--- the first position of a list whose items are seen by a function
-prefix_seen : {X Y : Type 0} (h : X → Y) (p : Y → Bool) (xs : List X) → prefix_len p (map h xs) ≡ prefix_len (λ x. p (h x)) xs
-prefix_seen h p [] = refl
-prefix_seen h p (x ∷ xs) = ap (λ n. cond (p (h x)) (1 + n) 0) (prefix_seen h p xs)
-
-position_seen : {X Y : Type 0} (h : X → Y) (p : Y → Bool) (xs : List X) → position p (map h xs) ≡ position (λ x. p (h x)) xs
-position_seen h p xs =
-    ap (λ n. cond (nat_lt n (length (map h xs))) (Some n) None) (prefix_seen h (λ y. not (p y)) xs)
-    ∙ ap (λ m. cond (nat_lt (position_or_len (λ x. p (h x)) xs) m) (Some (position_or_len (λ x. p (h x)) xs)) None) (length-map xs h)
 
 -- something is found where it has a position
 found_placed : {X : Type 0} (p : X → Bool) (xs : List X) → is_some (find p xs) ≡ is_some (position p xs)
@@ -45,7 +33,7 @@ names_are line = refl
 -- a struct that an include gives has the position of its name
 pub header_named : (line : ℕ) (name : List ℕ) → position (λ s. bytes_eq s.name name) (header_types line) ≡ position (λ n. bytes_eq n name) header_names
 header_named line name =
-    sym (position_seen (λ s. s.name) (λ n. bytes_eq n name) (header_types line)) ∙ ap (position (λ n. bytes_eq n name)) (names_are line)
+    sym (position_map (λ s. s.name) (λ n. bytes_eq n name) (header_types line)) ∙ ap (position (λ n. bytes_eq n name)) (names_are line)
 
 pub header_has : (name : List ℕ) → is_some (header_struct_named name) ≡ is_some (position (λ n. bytes_eq n name) header_names)
 header_has name = found_placed (λ s. bytes_eq s.name name) (header_types 0) ∙ ap is_some (header_named 0 name)

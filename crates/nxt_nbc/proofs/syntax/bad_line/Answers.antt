@@ -17,4 +17,4 @@ returns c =
     ∙ ap (λ ls. first_line (is_bad_form types) (map line_form_seen ls)) c.as_slice.ensures
     ∙ ap (λ (s : Source). first_line (is_bad_form s.types) fd.forms) c.requires.of in
     subst (IsLeast (λ l. tells fd (Syntax l))) (sym (c.lesser.ensures ∙ ap (lesser fd.bad) first))
-    (least_syntax fd 0 c.requires.ascends)
+    (least_syntax fd 0 c.requires.lines.ascend)

@@ -1,0 +1,17 @@
+//! The kinds of operands in NBC texts (NBC Programmer's Guide).
+#![tactic(auto)]
+
+mod between;
+mod kin;
+mod kinds;
+mod operand;
+mod ranges;
+mod sorts;
+mod types;
+
+pub use between::{fits_others, has_kind, is_allowed, is_of_class};
+pub use kin::Kinship;
+pub use kinds::wrong_kind;
+pub use operand::{Operand, Operands};
+pub use ranges::range_line;
+pub use sorts::operands_of;
