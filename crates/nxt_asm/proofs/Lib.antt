@@ -1,0 +1,22 @@
+-- What holds of every program's image.
+pub mod Laws
+-- What arrays and members take.
+mod Taken
+-- The shapes of structs behind one another, and their measures.
+mod StructShapes
+-- Steps to members.
+mod Steps
+-- The entries of shapes, one after another.
+mod Entries
+-- The places of leaves, counted as they come.
+mod LeafPlaces
+-- What is put in where it is new is what is distinct.
+mod Distinct
+-- What references to texts show.
+mod ShownTexts
+-- The place of an item among others.
+mod PlacesAmong
+-- Where statements begin, with one more statement or block at the end.
+mod Words
+-- The least line with a far jump, with one more statement or block at the end.
+mod FarJumps

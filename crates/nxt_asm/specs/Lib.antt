@@ -1,0 +1,16 @@
+-- What shapes take in an image.
+pub mod Measures
+-- The measures of structs, as the definitions see them.
+pub mod MeasuresSeen
+-- The entries of shapes, written one after another.
+pub mod Places
+-- Shapes whose leaves stand at places of 16 bits.
+pub mod Fitting
+-- The constants of a program's operands.
+pub mod Constants
+-- When a parsed text isn't assembled.
+pub mod AsmRules
+-- The parts of the file that a parsed text is assembled to.
+pub mod AssembledParts
+-- Where the statements of a program's blocks begin.
+pub mod Starts

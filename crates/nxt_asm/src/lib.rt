@@ -1,0 +1,18 @@
+//! The assembler: the image that a program in NBC is assembled to.
+#![tactic(auto)]
+
+mod clumps;
+mod constants;
+mod fault;
+mod jumps;
+mod measure;
+mod starts;
+mod table;
+
+pub use clumps::{clump_dependents, clump_records};
+pub use constants::Constants;
+pub use fault::AsmFault;
+pub use jumps::far_jump;
+pub use measure::{Measure, Measures};
+pub use starts::Starts;
+pub use table::table_of;
