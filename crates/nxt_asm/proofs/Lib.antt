@@ -20,3 +20,9 @@ mod PlacesAmong
 mod Words
 -- The least line with a far jump, with one more statement or block at the end.
 mod FarJumps
+-- The first table entries of shapes, and the return variables of blocks.
+mod FirstPlaces
+-- The shapes of a program's variables and constants, by position.
+mod NumberShapes
+-- The code of statements and blocks, with one more of them at the end.
+mod CodeWords

@@ -14,3 +14,9 @@ pub mod AsmRules
 pub mod AssembledParts
 -- Where the statements of a program's blocks begin.
 pub mod Starts
+-- The first table entries of shapes, and the return variables of blocks.
+pub mod Firsts
+-- What is known of a program where its operands' words are told.
+pub mod NumbersSeen
+-- Statements whose long forms can be written.
+pub mod Codable

@@ -2,17 +2,22 @@
 #![tactic(auto)]
 
 mod clumps;
+mod code;
 mod constants;
 mod fault;
+mod firsts;
 mod jumps;
 mod measure;
+mod numbers;
 mod starts;
 mod table;
 
 pub use clumps::{clump_dependents, clump_records};
+pub use code::code_of;
 pub use constants::Constants;
 pub use fault::AsmFault;
 pub use jumps::far_jump;
 pub use measure::{Measure, Measures};
+pub use numbers::Numbers;
 pub use starts::Starts;
 pub use table::table_of;

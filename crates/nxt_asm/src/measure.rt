@@ -163,8 +163,8 @@ fn measure_behind(
 
 // ---- steps to members
 
-// A type that has no members.
-fn without_members() -> NbcType
+/// A type that has no members.
+pub(crate) fn without_members() -> NbcType
     ensures { (ss : List Shape) (ks : List ℕ) → entries_before ks (shape_by ss result) ≡ entries_before ks Void }
 {
     NbcType {
