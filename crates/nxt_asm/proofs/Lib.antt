@@ -26,3 +26,7 @@ mod FirstPlaces
 mod NumberShapes
 -- The code of statements and blocks, with one more of them at the end.
 mod CodeWords
+-- Leaves behind one another, and their defaults.
+mod DefaultLeaves
+-- The rows and the bytes of lists, one after another.
+mod ListRows

@@ -20,3 +20,7 @@ pub mod Firsts
 pub mod NumbersSeen
 -- Statements whose long forms can be written.
 pub mod Codable
+-- Defaults, written one leaf after another.
+pub mod Defaults
+-- The rows and the bytes of lists, written one after another.
+pub mod Lists

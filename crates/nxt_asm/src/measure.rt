@@ -1,7 +1,7 @@
 // What types take in an image.
 
-ghost use Rattle.std.specs.Prelude.{◌≡◌, ℕ, ◌+◌, List, [], ◌∷◌, ◌++◌, map, length, take, nat_abs, IfOk};
-ghost use Rattle.nxt_types.specs.Shapes.{Shape, Number, Void, cluster_of};
+ghost use Rattle.std.specs.Prelude.{◌≡◌, ℕ, ◌+◌, ◌^◌, ◌<◌, List, [], ◌∷◌, ◌++◌, map, length, take, nat_abs, IfOk};
+ghost use Rattle.nxt_types.specs.Shapes.{Shape, Number, Void, cluster_of, leaf_bytes};
 ghost use Rattle.nxt_model.specs.Assembled.{entries_before};
 ghost use Rattle.nxt_model.specs.Nbc.Types.{arrays_of};
 ghost use Rattle.nxt_model.specs.TextProgram.{base_shape, shape_by, struct_shape, struct_shapes};
@@ -61,6 +61,15 @@ impl Model for Measures {
 // ---- one type
 
 impl Measure {
+    /// The bytes of its leaves.
+    pub(crate) fn bytes(self) -> u64
+        ensures { (s : Shape) → self ≡ measure_of s → leaf_bytes s < 2 ^ 16 → result ≡ leaf_bytes s }
+    {
+        self.fours
+            .saturating_add(self.twos)
+            .saturating_add(self.ones)
+    }
+
     /// That of one entry with leaves of so many bytes.
     pub(crate) fn of_entry(fours: u64, twos: u64, ones: u64) -> Measure
         ensures { result ≡ record { entries = 1; fours = fours; twos = twos; ones = ones; arrays = 0 } }

@@ -148,7 +148,11 @@ fn write_arrays(
 // ---- types
 
 // The struct of that position, if it is one of the first.
-fn struct_among(structs: &[NbcStruct], first: usize, position: usize) -> Option<&NbcStruct>
+pub(crate) fn struct_among(
+    structs: &[NbcStruct],
+    first: usize,
+    position: usize,
+) -> Option<&NbcStruct>
     ensures { MatchOption result (slice_index_or (first_shapes first structs.now) position Void ≡ Void) (λ s. (position < first) × (slice_index_or (first_shapes first structs.now) position Void ≡ struct_shape (first_shapes position structs.now) s.now)) }
 {
     if position < first {

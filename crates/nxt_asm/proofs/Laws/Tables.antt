@@ -24,7 +24,7 @@ number_bytes Ulong = refl
 number_bytes Slong = refl
 
 mutual
-  total_is : (s : Shape) → total (leaf_sizes s) ≡ leaf_bytes s
+  pub total_is : (s : Shape) → total (leaf_sizes s) ≡ leaf_bytes s
   total_is Void = refl
   total_is (Number k) = number_bytes k
   total_is (Array stride s) = refl
