@@ -55,6 +55,71 @@ fn nested(alloc: Global, count: usize) -> Result<String, Fail> {
     Ok(text)
 }
 
+/// A text's first bytes, how often another text follows, that text, the last bytes, and the fault.
+type Repeated<'a> = (&'a str, usize, &'a str, &'a str, &'a str);
+
+static REPEATED: [Repeated<'static>; 8] = [
+    (LISTS, 32_764, ",1", "\nendt\n", "none"),
+    (LISTS, 32_765, ",1", "\nendt\n", "Syntax(5)"),
+    ("/*", 262_142, "a", "", "Lex(1)"),
+    ("thread main\nwait ", 262_127, "a", "", "Syntax(1)"),
+    (
+        "thread main\nwait ",
+        262_121,
+        "a",
+        "\nendt",
+        "UnknownName(2)",
+    ),
+    (
+        "thread main\nwait a",
+        131_060,
+        ".a",
+        "\nendt",
+        "UnknownName(2)",
+    ),
+    (
+        "thread main\nfollows main",
+        52_400,
+        ",main",
+        "\nendt",
+        "none",
+    ),
+    (
+        "thread main\n",
+        29_000,
+        "exitto t\n",
+        "endt\nthread t\nendt",
+        "none",
+    ),
+];
+
+/// A text's first bytes, how many numbered lines follow, what stands before and behind the number, the last bytes, and the
+/// fault.
+type Numbered<'a> = (&'a str, usize, &'a str, &'a str, &'a str, &'a str);
+
+static NUMBERED: [Numbered<'static>; 6] = [
+    (DATA, 9_999, "a", " byte", CODE, "none"),
+    (DATA, 10_000, "a", " byte", CODE, "TooMany(1)"),
+    ("thread main\nendt\n", 254, "thread t", "\nendt", "", "none"),
+    (
+        "thread main\nendt\n",
+        255,
+        "thread t",
+        "\nendt",
+        "",
+        "TooMany(0)",
+    ),
+    ("", 256, "thread t", "\nendt", "", "NoMain"),
+    (
+        "thread main\n",
+        20_000,
+        "jmp l",
+        "",
+        "endt",
+        "UnknownName(2)",
+    ),
+];
+
 fn check(rt: &impl Abort, alloc: Global, text: &String, due: &str) -> Result<(), Fail> {
     let told = fault(alloc, text.as_bytes())?;
     assert_eq!(rt; told.as_str(), due);
@@ -68,118 +133,47 @@ const CODE: &str = "dseg ends\nthread main\nendt\n";
 const LISTS: &str = "dseg segment\ne byte[]\ndseg ends\nthread main\narrbuild e";
 
 #[test]
-fn counts(rt: HostRuntime) -> Result<(), Fail> {
+fn one_piece_again_and_again(rt: HostRuntime) -> Result<(), Fail> {
     let alloc = rt.alloc();
-    check(
-        &rt,
-        alloc,
-        &lines(alloc, DATA, 9_999, "a", " byte", CODE)?,
-        "none",
-    )?;
-    check(
-        &rt,
-        alloc,
-        &lines(alloc, DATA, 10_000, "a", " byte", CODE)?,
-        "TooMany(1)",
-    )?;
-    check(
-        &rt,
-        alloc,
-        &lines(alloc, "thread main\nendt\n", 254, "thread t", "\nendt", "")?,
-        "none",
-    )?;
-    check(
-        &rt,
-        alloc,
-        &lines(alloc, "thread main\nendt\n", 255, "thread t", "\nendt", "")?,
-        "TooMany(0)",
-    )?;
-    check(
-        &rt,
-        alloc,
-        &lines(alloc, "", 256, "thread t", "\nendt", "")?,
-        "NoMain",
-    )?;
-    check(
-        &rt,
-        alloc,
-        &repeated(alloc, LISTS, 32_764, ",1", "\nendt\n")?,
-        "none",
-    )?;
-    check(
-        &rt,
-        alloc,
-        &repeated(alloc, LISTS, 32_765, ",1", "\nendt\n")?,
-        "Syntax(5)",
-    )?;
-    check(&rt, alloc, &nested(alloc, 8)?, "none")?;
-    check(&rt, alloc, &nested(alloc, 9)?, "none")?;
-    check(&rt, alloc, &nested(alloc, 10)?, "Syntax(39)")?;
-    check(&rt, alloc, &nested(alloc, 7_000)?, "Syntax(39)")
+    for (first, count, again, last, due) in &REPEATED {
+        check(
+            &rt,
+            alloc,
+            &repeated(alloc, *first, *count, *again, *last)?,
+            *due,
+        )?;
+    }
+    Ok(())
 }
 
 #[test]
-fn large(rt: HostRuntime) -> Result<(), Fail> {
+fn numbered_lines(rt: HostRuntime) -> Result<(), Fail> {
     let alloc = rt.alloc();
-    check(
-        &rt,
-        alloc,
-        &repeated(alloc, "/*", 262_142, "a", "")?,
-        "Lex(1)",
-    )?;
-    check(
-        &rt,
-        alloc,
-        &repeated(alloc, "thread main\nwait ", 262_127, "a", "")?,
-        "Syntax(1)",
-    )?;
-    check(
-        &rt,
-        alloc,
-        &repeated(alloc, "thread main\nwait ", 262_121, "a", "\nendt")?,
-        "UnknownName(2)",
-    )?;
-    check(
-        &rt,
-        alloc,
-        &repeated(alloc, "thread main\nwait a", 131_060, ".a", "\nendt")?,
-        "UnknownName(2)",
-    )?;
-    check(
-        &rt,
-        alloc,
-        &repeated(
-            alloc,
-            "thread main\nfollows main",
-            52_400,
-            ",main",
-            "\nendt",
-        )?,
-        "none",
-    )?;
-    check(
-        &rt,
-        alloc,
-        &repeated(
-            alloc,
-            "thread main\n",
-            29_000,
-            "exitto t\n",
-            "endt\nthread t\nendt",
-        )?,
-        "none",
-    )?;
-    check(
-        &rt,
-        alloc,
-        &lines(alloc, "thread main\n", 20_000, "jmp l", "", "endt")?,
-        "UnknownName(2)",
-    )?;
+    for (first, count, front, back, last, due) in &NUMBERED {
+        let text = lines(alloc, *first, *count, *front, *back, *last)?;
+        check(&rt, alloc, &text, *due)?;
+    }
+    Ok(())
+}
+
+#[test]
+fn labels_behind_their_jumps(rt: HostRuntime) -> Result<(), Fail> {
+    let alloc = rt.alloc();
     let jumps = lines(alloc, "thread main\n", 9_999, "jmp l", "", "")?;
-    check(
-        &rt,
-        alloc,
-        &lines(alloc, jumps.as_str(), 9_999, "l", ":", "endt")?,
-        "none",
-    )
+    let text = lines(alloc, jumps.as_str(), 9_999, "l", ":", "endt")?;
+    check(&rt, alloc, &text, "none")
+}
+
+#[test]
+fn structs_in_structs(rt: HostRuntime) -> Result<(), Fail> {
+    let alloc = rt.alloc();
+    for (count, due) in [
+        (8, "none"),
+        (9, "none"),
+        (10, "Syntax(39)"),
+        (7_000, "Syntax(39)"),
+    ] {
+        check(&rt, alloc, &nested(alloc, count)?, due)?;
+    }
+    Ok(())
 }
