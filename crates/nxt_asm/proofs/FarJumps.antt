@@ -6,8 +6,8 @@ use Rattle.std.proofs.lemmas.List.{take_more}
 use Rattle.nxt_model.specs.declared.nbc.NbcBlock.{NbcBlock}
 use Rattle.nxt_model.specs.declared.nbc.NbcStatement.{NbcStatement}
 use Rattle.nxt_model.specs.Assembled.{starts_from, block_words, word_count}
-use Rattle.nxt_asm.specs.Starts.{blocks_starts}
-use Rattle.nxt_asm.proofs.Words.{past_one, past_none, start_at, block_at}
+use Rattle.nxt_parts.specs.Starts.{blocks_starts}
+use Rattle.nxt_parts.proofs.Laws.Words.{past_one, past_none, start_at, block_at}
 use Rattle.nxt_asm.specs.AsmRules.{jumps_far, far_in_body, far_in_blocks}
 use Rattle.nxt_forms.specs.Firsts.{IsLeast, lesser}
 use Rattle.nxt_forms.proofs.Laws.FirstLines.{least_lesser, least_like}

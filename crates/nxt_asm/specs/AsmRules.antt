@@ -1,9 +1,8 @@
 -- When a parsed text isn't assembled.
-use Rattle.std.specs.Prelude.{ℕ, zero, suc, ◌+◌, Bool, false, ◌&&◌, ◌||◌, ◌==◌, nat_lt, List, [], ◌∷◌, ◌++◌, find, flat_map, sum_by, slice_index, Option, IsTrue}
+use Rattle.std.specs.Prelude.{ℕ, zero, suc, ◌+◌, Bool, false, ◌&&◌, ◌||◌, ◌==◌, nat_lt, List, [], ◌∷◌, flat_map, sum_by, slice_index, Option, IsTrue}
 use Rattle.std.specs.List.{list_any}
 use Rattle.nxt_types.specs.Refusals.{passes}
 use Rattle.nxt_types.specs.Names.{size}
-use Rattle.nxt_types.specs.Shapes.{Shape, Void, Number, Array, Cluster, Mutex, Members, no_members, member, leaf_bytes}
 use Rattle.nxt_model.specs.declared.nbc.NbcArg.{NbcArg}
 use Rattle.nxt_model.specs.declared.nbc.NbcArg.TheVariants as args
 use Rattle.nxt_model.specs.declared.nbc.NbcStatement.{NbcStatement}
@@ -11,6 +10,7 @@ use Rattle.nxt_model.specs.declared.nbc.NbcBlock.{NbcBlock}
 use Rattle.nxt_types.specs.Pool.{pool_size}
 use Rattle.nxt_model.specs.TextProgram.{Text, program_of}
 use Rattle.nxt_model.specs.Assembled.{all_shapes, starts_from, block_words, word_count}
+use Rattle.nxt_parts.specs.Elements.{elements_in, first_large}
 use Rattle.nxt_asm.specs.declared.fault.AsmFault.{AsmFault}
 use Rattle.nxt_asm.specs.declared.fault.AsmFault.TheVariants.{FarJump, TooLarge, PoolPassed, NoMemory}
 
@@ -22,22 +22,9 @@ entry_count p = sum_by size (all_shapes p)
 abbrev pub code_size : Text → ℕ
 code_size p = sum_by block_words p.blocks
 
--- the bytes of arrays' elements, in the table's order
-abbrev mutual
-  pub elements_in : Shape → List ℕ
-  elements_in Void = []
-  elements_in (Number k) = []
-  elements_in (Array n s) = leaf_bytes s ∷ elements_in s
-  elements_in (Cluster ss) = elements_among ss
-  elements_in Mutex = []
-
-  pub elements_among : Members → List ℕ
-  elements_among no_members = []
-  elements_among (member s ss) = elements_in s ++ elements_among ss
-
 -- the first that is too large
 abbrev pub large_element : Text → Option ℕ
-large_element p = find (λ n. nat_lt 32768 n) (flat_map elements_in (all_shapes p))
+large_element p = first_large (flat_map elements_in (all_shapes p))
 
 -- the size of the case, which is too large: the table, the code, or an element
 abbrev pub is_too_large : Text → ℕ → ℕ → Bool
@@ -71,7 +58,7 @@ far_in_blocks line here (b ∷ bs) =
 -- ---- rules
 
 abbrev pub start_footprint : Text → ℕ
-start_footprint p = let program = program_of p in program.footprint (program.lists program.values) program.values
+start_footprint p = let program = program_of p in program.footprint program.rows program.values
 
 -- the rule of the fault is broken at the fault's place
 abbrev pub breaks : Text → AsmFault → Bool

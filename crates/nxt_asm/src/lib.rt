@@ -1,27 +1,13 @@
-//! The assembler: the image that a program in NBC is assembled to.
+//! The assembler (NBC Programmer's Guide): `assemble` gives the image of a text's program, or the first rule that it breaks.
 #![tactic(auto)]
 
-mod clumps;
-mod code;
-mod constants;
-mod defaults;
+mod assembly;
+mod draft;
 mod fault;
-mod firsts;
+mod footprint;
 mod jumps;
-mod lists;
-mod measure;
-mod numbers;
-mod starts;
-mod table;
+mod rules;
+mod sections;
 
-pub use clumps::{clump_dependents, clump_records};
-pub use code::code_of;
-pub use constants::Constants;
-pub use defaults::static_defaults_of;
+pub use assembly::{Assembled, assemble};
 pub use fault::AsmFault;
-pub use jumps::far_jump;
-pub use lists::dynamic_defaults_of;
-pub use measure::{Measure, Measures};
-pub use numbers::Numbers;
-pub use starts::Starts;
-pub use table::table_of;

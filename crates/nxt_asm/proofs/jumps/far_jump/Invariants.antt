@@ -2,7 +2,7 @@
 use Rattle.std.proofs.Common.{◌≡◌, take}
 use Rattle.nxt_asm.specs.AsmRules.{far_in_blocks}
 use Rattle.nxt_forms.specs.Firsts.{IsLeast}
-use Rattle.nxt_asm.specs.Starts.{blocks_starts}
+use Rattle.nxt_parts.specs.Starts.{blocks_starts}
 use Rattle.nxt_asm.proofs.jumps.far_jump.Given as goal
 
 abbrev pub invariant-loop-i : goal.invariant-loop-i

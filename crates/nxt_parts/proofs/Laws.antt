@@ -1,0 +1,6 @@
+-- What holds of every program's image.
+
+-- Tables whose numbers have 16 bits.
+pub mod Tables
+-- Where statements begin, with one more statement or block at the end.
+pub mod Words
