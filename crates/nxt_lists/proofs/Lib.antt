@@ -2,6 +2,7 @@ pub mod Between
 pub mod Conversions
 pub mod Copies
 pub mod Counted
+pub mod InnerLists
 pub mod JoinedNumbers
 pub mod ListElements
 pub mod ListStored

@@ -11,6 +11,7 @@ ghost use Rattle.nxt_space.specs.Outcomes.{Does};
 ghost use Rattle.nxt_operands.specs.Operands.{Done, given, given_or_left, place_of, values_stored};
 
 use crate::gathering::{length_of, push_element, push_elements, push_pieces};
+use crate::inner::{copy_element, list_and_lists, put_element};
 use crate::joining::Piece;
 use crate::numbers::{replace_number, replace_numbers, store_section};
 use nxt_operands::lists::{lists_of_a_kind, pick};
@@ -33,6 +34,9 @@ pub fn index(alloc: Global, space: &mut Space, dest: u16, list: u16, at: u16) ->
     if let (Some(number), Some(numbers)) = (space.spot(dest), space.list_spot(list)) {
         pick(space, number, numbers, k);
         return Ok(());
+    }
+    if let Some((to, lists)) = list_and_lists(space, dest, list) {
+        return copy_element(space, to, lists, k);
     }
     let flat = element_or_none(alloc, space, list, k)?;
     store(space, dest, &flat)
@@ -78,6 +82,11 @@ pub fn replace(
             }
             Some(Piece::Each(numbers)) => return replace_numbers(alloc, space, spots, k, numbers),
             None => {}
+        }
+    }
+    if dest == list {
+        if let Some((numbers, lists)) = list_and_lists(space, new, list) {
+            return put_element(space, lists, k, numbers);
         }
     }
     let flat = overwritten(alloc, space, list, k, new)?;

@@ -17,6 +17,7 @@ use nxt_operands::lists::push_number;
 use nxt_operands::storing::check_room;
 use nxt_space::{ListSpot, OpFault, Space, Spot};
 use nxt_types::kind::Kind;
+use nxt_types::numbers::leaf_size;
 use nxt_types::{Bytes, NoMemory};
 use nxt_values::sizing::NONE;
 use std::alloc::Global;
@@ -103,25 +104,28 @@ pub fn store_joined(
     match sources {
         [first, others @ ..] if *first == dest => extend_numbers(alloc, space, dest, to, others),
         _ => {
-            let bytes = joined_numbers(alloc, space, dest, to, sources)?;
+            let room = count as usize * leaf_size(to.kind()) as usize;
+            let bytes = joined_numbers(alloc, space, dest, to, sources, room)?;
             store_numbers(space, to, &bytes)
         }
     }
 }
 
-// The bytes of the numbers that all sources give.
+// The bytes of the numbers that all sources give. Memory for so many is taken at once.
 fn joined_numbers(
     alloc: Global,
     space: &Space,
     dest: u16,
     to: ListSpot,
     sources: &[u16],
+    room: usize,
 ) -> Result<Bytes, NoMemory>
     requires dest { IsListSpot space.now.vars dest to }
     requires numbers { All (GivesNumbers space.now.vars to.kind) sources.now }
     ensures { IfOk result (λ bytes. AreStored to.kind bytes (pieces_of space.now.vars dest sources.now)) }
 {
     let mut bytes = Bytes::new(alloc);
+    bytes.reserve(room)?;
     for source in sources {
         match Piece::at(space, to.kind(), *source) {
             Some(piece) => piece.push(space, to.kind(), &mut bytes)?,
@@ -145,7 +149,7 @@ fn extend_numbers(
     requires few { length (pieces_of space.old.vars dest sources.now) * size_of_leaf to.kind < 2 ^ 31 }
     ensures { Does Done (with_value space.old.vars dest (stored (shape_of space.old.vars dest) (list_of (elements (value_of space.old.vars dest) ++ pieces_of space.old.vars dest sources.now)))) space.old result space.new }
 {
-    let more = joined_numbers(alloc, space, dest, to, sources)?;
+    let more = joined_numbers(alloc, space, dest, to, sources, 0)?;
     space.extend_list(to, more.as_slice())?;
     Ok(())
 }

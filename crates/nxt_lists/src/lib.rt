@@ -4,6 +4,7 @@
 pub mod building;
 pub mod elements;
 mod gathering;
+mod inner;
 mod joining;
 mod numbers;
 

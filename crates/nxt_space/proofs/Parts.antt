@@ -18,3 +18,11 @@ pub mod Spots
 pub mod ListSpots
 -- A list that gets more bytes.
 pub mod Extended
+-- What stands at a place fills it anew.
+pub mod Refilled
+-- A list of numbers that is an element of another list gets other bytes.
+pub mod InnerRows
+-- A row's list gets other bytes, and so what begins at an entry has another value.
+pub mod RowGiven
+-- Lists of lists of numbers, of which one is read and stored where it stands.
+pub mod InnerSpots

@@ -13,5 +13,5 @@ pub use nxt_heap::PoolPassed;
 pub use nxt_values::sizing::{Size, spelled_size};
 pub use path::Path;
 pub use space::Space;
-pub use spots::{ListSpot, Spot};
+pub use spots::{InnerSpot, ListSpot, Spot};
 pub use variables::Flat;

@@ -44,7 +44,7 @@ pub fn concatenate(
     if let Some((list, others)) = grown(space, dest, sources) {
         return add_bodies(alloc, space, list, others);
     }
-    let bytes = bodies(alloc, space, sources)?;
+    let bytes = bodies(alloc, space, sources, length as usize)?;
     store_text(alloc, space, dest, bytes.as_slice())
 }
 
@@ -73,7 +73,7 @@ fn add_bodies(
     requires texts { All (λ i. is_text (shape_of space.old.vars i) ≡ true) others.now }
     ensures { (i : ℕ) → IsListSpot space.old.vars i list → StoresBytes space.old i (body_at space.old.vars i ++ ended (bodies_at space.old.vars others.now)) result space.new }
 {
-    let mut more = bodies(alloc, space, others)?;
+    let mut more = bodies(alloc, space, others, 0)?;
     more.push(0)?;
     add_to_body(space, list, more.as_slice())
 }
@@ -216,14 +216,15 @@ fn bodies_length(alloc: Global, space: &Space, sources: &[u16]) -> Result<u64, N
     Ok(length)
 }
 
-// The bodies of texts, one after another.
-fn bodies(alloc: Global, space: &Space, sources: &[u16]) -> Result<Bytes, NoMemory>
+// The bodies of texts, one after another. Memory for so many bytes is taken at once.
+fn bodies(alloc: Global, space: &Space, sources: &[u16], room: usize) -> Result<Bytes, NoMemory>
     requires sound { AreSound space.now.vars }
     requires sources { All (λ i. IsSome (name_of space.now.vars i)) sources.now }
     requires texts { All (λ i. is_text (shape_of space.now.vars i) ≡ true) sources.now }
     ensures { IfOk result (λ bytes. bytes ≡ bodies_at space.now.vars sources.now) }
 {
     let mut bytes = Bytes::new(alloc);
+    bytes.reserve(room)?;
     for source in sources {
         let text = text_of(alloc, space, *source)?;
         bytes.append(body(text.bytes()))?;

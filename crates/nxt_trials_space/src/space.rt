@@ -7,6 +7,7 @@ ghost use Rattle.nxt_layout.specs.Layouts.{IsLayout};
 
 mod calls;
 mod counting;
+mod inner;
 mod lists;
 mod pool;
 mod spots;

@@ -1,0 +1,122 @@
+// Lists of lists that are read and stored where they stand.
+
+use super::started;
+use nxt_images::{ARRAY, EMPTY, Image, SWORD, UBYTE, layout_of};
+use nxt_space::{PoolPassed, Space};
+use nxt_types::numbers::leaf_size;
+use std::process::Abort;
+use std::test::Fail;
+
+/// A list of two texts, a text, and a list of one signed number of 16 bits.
+const TEXTS: Image<'static> = Image {
+    entries: &[
+        (ARRAY, 0, 0),
+        (ARRAY, 0, 0),
+        (UBYTE, 0, 0),
+        (ARRAY, 0, 2),
+        (UBYTE, 0, 0),
+        (ARRAY, 0, 4),
+        (SWORD, 0, 0),
+    ],
+    static_size: 6,
+    defaults: &[1, 0, 4, 0, 5, 0],
+    rows: &[
+        (6, 10, 6),
+        (66, 2, 2),
+        (70, 1, 3),
+        (73, 1, 1),
+        (74, 1, 4),
+        (78, 2, 1),
+    ],
+    lists: &[2, 0, 3, 0, 97, 98, 0, 122, 104, 101, 121, 0, 7, 0],
+    ..EMPTY
+};
+
+// The text goes over the k-th text of the list.
+fn put(rt: &impl Abort, space: &mut Space, k: u32) -> Result<(), PoolPassed> {
+    match (space.inner_spot(0), space.list_spot(3)) {
+        (Some(texts), Some(text)) => {
+            assert!(rt; text.kind() == texts.kind());
+            space.copy_to_inner(texts, k, text)
+        }
+        _ => Err(PoolPassed(0)),
+    }
+}
+
+// The text becomes the k-th text of the list.
+fn take(rt: &impl Abort, space: &mut Space, k: u32) -> Result<(), PoolPassed> {
+    match (space.inner_spot(0), space.list_spot(3)) {
+        (Some(texts), Some(text)) => {
+            assert!(rt; texts.kind() == text.kind());
+            space.copy_from_inner(text, texts, k)
+        }
+        _ => Err(PoolPassed(0)),
+    }
+}
+
+fn set(rt: &impl Abort, space: &mut Space, bytes: &[u8]) -> Result<(), PoolPassed> {
+    match space.list_spot(3) {
+        Some(text) => {
+            assert!(rt; bytes.len() < 65536);
+            assert!(rt; bytes.len() % leaf_size(text.kind()) as usize == 0);
+            space.set_list(text, bytes)
+        }
+        None => Err(PoolPassed(0)),
+    }
+}
+
+fn expect(rt: &impl Abort, space: &Space, bytes: &[u8], footprint: u32) {
+    match (space.inner_spot(0), space.list_spot(3)) {
+        (Some(texts), Some(text)) => {
+            assert_eq!(rt; space.bytes(text), bytes);
+            assert_eq!(rt; space.inner_count(texts), 2);
+            assert_eq!(rt; space.footprint(), footprint);
+        }
+        _ => assert!(rt; false),
+    }
+}
+
+// Past the end nothing is stored, and no elements are read.
+#[test]
+fn inner_lists_are_copied_both_ways(rt: HostRuntime) -> Result<(), Fail> {
+    let layout = layout_of(rt.alloc(), &TEXTS)?;
+    let mut space = started(rt.alloc(), &layout)?;
+    expect(&rt, &space, b"hey\0", 8 + 60 + 5 * 4);
+    assert_eq!(rt; put(&rt, &mut space, 1), Ok(()));
+    assert_eq!(rt; take(&rt, &mut space, 0), Ok(()));
+    expect(&rt, &space, b"ab\0", 8 + 60 + 5 * 4);
+    assert_eq!(rt; put(&rt, &mut space, 2), Ok(()));
+    assert_eq!(rt; take(&rt, &mut space, 1), Ok(()));
+    expect(&rt, &space, b"hey\0", 8 + 60 + 5 * 4);
+    assert_eq!(rt; take(&rt, &mut space, 2), Ok(()));
+    expect(&rt, &space, b"", 8 + 60 + 4 * 4);
+    assert_eq!(rt; put(&rt, &mut space, 0), Ok(()));
+    assert_eq!(rt; take(&rt, &mut space, u32::MAX), Ok(()));
+    expect(&rt, &space, b"", 8 + 60 + 3 * 4);
+    assert_eq!(rt; take(&rt, &mut space, 1), Ok(()));
+    expect(&rt, &space, b"hey\0", 8 + 60 + 4 * 4);
+    Ok(())
+}
+
+// The pool is full, and the list of texts stays.
+#[test]
+fn a_refused_text_changes_nothing(rt: HostRuntime) -> Result<(), Fail> {
+    let layout = layout_of(rt.alloc(), &TEXTS)?;
+    let mut space = started(rt.alloc(), &layout)?;
+    assert_eq!(rt; set(&rt, &mut space, &[0; 32684]), Ok(()));
+    assert_eq!(rt; put(&rt, &mut space, 0), Err(PoolPassed(65448)));
+    assert_eq!(rt; take(&rt, &mut space, 0), Ok(()));
+    expect(&rt, &space, b"ab\0", 8 + 60 + 5 * 4);
+    Ok(())
+}
+
+#[test]
+fn only_lists_of_lists_have_inner_ones(rt: HostRuntime) -> Result<(), Fail> {
+    let layout = layout_of(rt.alloc(), &TEXTS)?;
+    let space = started(rt.alloc(), &layout)?;
+    assert!(rt; space.list_spot(0).is_none());
+    for i in 1..8u16 {
+        assert!(rt; space.inner_spot(i).is_none());
+    }
+    Ok(())
+}
