@@ -7,13 +7,14 @@ ghost use Rattle.nxt_nbc.specs.Checked.{IsParsed};
 ghost use Rattle.nxt_parts.specs.AssembledParts.{parts_of};
 ghost use Rattle.nxt_parts.specs.Sound.{IsSound};
 ghost use Rattle.nxt_rxe.specs.Files.{HasCounts, HasDynamic};
-ghost use Rattle.nxt_asm.specs.AsmRules.{Broken, start_footprint};
-ghost use Rattle.nxt_asm.specs.Kept.{Refuses};
+ghost use Rattle.nxt_limits.specs.AsmRules.{Broken, start_footprint};
+ghost use Rattle.nxt_limits.specs.Kept.{Refuses};
+ghost use Rattle.nxt_sound_runs.specs.Runs.{RunsAs};
 
 use crate::draft::Draft;
-use crate::fault::AsmFault;
 use crate::rules::check_rules;
 use crate::sections::sections_of;
+use nxt_limits::AsmFault;
 use nxt_model::nbc::NbcProgram;
 use nxt_rxe::Parts;
 use std::alloc::Global;
@@ -39,6 +40,9 @@ pub fn assemble(alloc: Global, program: &NbcProgram) -> Result<Assembled, AsmFau
     // No rule is broken, or the first one is told.
     ensures kept { OnOk result (IsAccepted (Broken (text_of program.now))) }
     ensures refused { IfErr result (Refuses (text_of program.now)) }
+
+    // The image runs as the text does: with the same lines and stops, whatever happens.
+    ensures runs { IfOk result (λ a. RunsAs (text_of program.now) a.parts) }
 {
     assemble_sound(alloc, program)
 }

@@ -4,8 +4,8 @@ ghost use Rattle.std.specs.Prelude.{◌≡◌, ◌<◌, ◌+◌, ◌*◌, [], Al
 ghost use Rattle.nxt_types.specs.Pool.{round4 as rounded};
 ghost use Rattle.nxt_model.specs.TextProgram.{text_of};
 ghost use Rattle.nxt_parts.specs.Defaults.{StartFits, variable_of};
-ghost use Rattle.nxt_asm.specs.AsmRules.{start_footprint};
-ghost use Rattle.nxt_asm.specs.StartBytes.{start_bytes};
+ghost use Rattle.nxt_limits.specs.AsmRules.{start_footprint};
+ghost use Rattle.nxt_limits.specs.StartBytes.{start_bytes};
 
 use crate::draft::Draft;
 use nxt_model::nbc::{NbcStart, NbcStruct, NbcVar};

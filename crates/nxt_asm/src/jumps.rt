@@ -3,7 +3,7 @@
 ghost use Rattle.std.specs.Prelude.{◌≡◌, ◌==◌, ◌&&◌, ℕ};
 ghost use Rattle.std.specs.List.{list_any};
 ghost use Rattle.nxt_model.specs.Assembled.{starts_from};
-ghost use Rattle.nxt_asm.specs.AsmRules.{is_far, jumps_far, far_in_body, far_in_blocks};
+ghost use Rattle.nxt_limits.specs.AsmRules.{is_far, jumps_far, far_in_body, far_in_blocks};
 ghost use Rattle.nxt_forms.specs.Firsts.{IsLeast, lesser};
 ghost use Rattle.nxt_parts.specs.Starts.{blocks_starts};
 

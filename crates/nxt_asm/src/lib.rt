@@ -3,11 +3,9 @@
 
 mod assembly;
 mod draft;
-mod fault;
 mod footprint;
 mod jumps;
 mod rules;
 mod sections;
 
 pub use assembly::{Assembled, assemble};
-pub use fault::AsmFault;

@@ -4,18 +4,17 @@ ghost use Rattle.std.specs.Prelude.{◌≡◌, All, IfErr, IfOk, OnOk};
 ghost use Rattle.nxt_types.specs.Refusals.{IsAccepted};
 ghost use Rattle.nxt_model.specs.TextProgram.{text_of};
 ghost use Rattle.nxt_parts.specs.Defaults.{StartFits};
-ghost use Rattle.nxt_asm.specs.AsmRules.{Broken, start_footprint};
-ghost use Rattle.nxt_asm.specs.Kept.{KeepsJumps, KeepsSize, KeepsSizes, Refuses};
+ghost use Rattle.nxt_limits.specs.AsmRules.{Broken, start_footprint};
+ghost use Rattle.nxt_limits.specs.Kept.{KeepsJumps, KeepsSize, KeepsSizes, Refuses};
 
 use crate::draft::{Draft, exact};
-use crate::fault::AsmFault;
 use crate::footprint::footprint;
 use crate::jumps::far_jump;
+use nxt_limits::AsmFault;
 use nxt_types::NoMemory;
 use nxt_types::pool::POOL_BYTES;
+use nxt_types::words::MOST_ENTRIES;
 
-/// The most entries of a table.
-const MOST_ENTRIES: u64 = 49_151;
 /// The most words of code.
 const MOST_WORDS: u64 = 65_535;
 
@@ -39,7 +38,7 @@ fn check_sizes(draft: &Draft<'_>) -> Result<(), AsmFault>
     ensures refused { IfErr result (Refuses (text_of draft.now)) }
 {
     let words = draft.starts.code_size();
-    if draft.entries > MOST_ENTRIES {
+    if draft.entries > u64::from(MOST_ENTRIES) {
         Err(AsmFault::TooLarge(0, size_told(draft.entries)?))
     } else if words > MOST_WORDS {
         Err(AsmFault::TooLarge(1, size_told(words)?))

@@ -5,7 +5,7 @@ ghost use Rattle.nxt_model.specs.Assembled.{assembled};
 ghost use Rattle.nxt_model.specs.TextProgram.{text_of};
 ghost use Rattle.nxt_parts.specs.AssembledParts.{dynamic_defaults, header_of, parts_of, static_defaults};
 ghost use Rattle.nxt_parts.specs.Sound.{IsSound};
-ghost use Rattle.nxt_asm.specs.Fits.{PartsFit};
+ghost use Rattle.nxt_limits.specs.Fits.{PartsFit};
 
 use crate::draft::Draft;
 use nxt_parts::{

@@ -1,16 +1,15 @@
 //! Times of large texts in NBC: one is made, and parsed ten times. The word tells which, by its first letter; with `-` in
-//! front it is made alone.
+//! front it is made alone, and with `+` it is assembled each time too.
 #![tactic(auto)]
 
+use nxt_asm::assemble;
+use nxt_forms::LONGEST_TEXT;
 use nxt_nbc::parse;
 use std::alloc::Global;
 use std::env;
 use std::process::ExitCode;
 use std::rt::Env;
 use std::test::Fail;
-
-/// The most bytes that a text may have.
-const LONGEST_TEXT: usize = 16_777_216;
 
 // A text, so many copies of another, and a third.
 fn repeated(
@@ -60,12 +59,25 @@ fn nested(alloc: Global) -> Result<String, Fail> {
     Ok(text)
 }
 
+// Statements of ten different numbers.
+const TEN: &str =
+    "add n, n, 11000\nadd n, n, 11001\nadd n, n, 11002\nadd n, n, 11003\nadd n, n, 11004\n\
+    add n, n, 11005\nadd n, n, 11006\nadd n, n, 11007\nadd n, n, 11008\nadd n, n, 11009\n";
+
+// And of ten different texts.
+const TEN_TEXTS: &str =
+    "strcat e, e, 'text 1000'\nstrcat e, e, 'text 1001'\nstrcat e, e, 'text 1002'\n\
+    strcat e, e, 'text 1003'\nstrcat e, e, 'text 1004'\nstrcat e, e, 'text 1005'\n\
+    strcat e, e, 'text 1006'\nstrcat e, e, 'text 1007'\nstrcat e, e, 'text 1008'\n\
+    strcat e, e, 'text 1009'\n";
+
 const DATA: &str = "dseg segment\nn long\ne byte[]\ndseg ends\nthread main\n";
 
 fn text_of(alloc: Global, which: u8) -> Result<String, Fail> {
     match which {
         b'a' => repeated(alloc, DATA, 21_000, "add n, n, 1\n", "endt\n"),
         b'c' => repeated(alloc, "/*", 262_142, "a", ""),
+        b'd' => lines(alloc, DATA, 8_000, "add n, n, 1", "", "endt\n"),
         b'e' => repeated(
             alloc,
             "thread main\n",
@@ -80,10 +92,12 @@ fn text_of(alloc: Global, which: u8) -> Result<String, Fail> {
             ",main",
             "\nendt",
         ),
+        b'i' => repeated(alloc, DATA, 800, TEN, "endt\n"),
         b'j' => {
             let jumps = lines(alloc, "thread main\n", 9_999, "jmp l", "", "")?;
             lines(alloc, jumps.as_str(), 9_999, "l", ":", "endt")
         }
+        b'k' => repeated(alloc, DATA, 135, TEN_TEXTS, "endt\n"),
         b'l' => repeated(alloc, "thread main\nwait a", 131_060, ".a", "\nendt"),
         b'n' => lines(
             alloc,
@@ -100,31 +114,49 @@ fn text_of(alloc: Global, which: u8) -> Result<String, Fail> {
             ",1",
             "\nendt\n",
         )),
+        b'q' => lines(alloc, DATA, 1_350, "strcat e, e, 'text ", "'", "endt\n"),
         b's' => nested(alloc),
         b't' => lines(alloc, "", 255, "thread t", "\nendt", ""),
         _ => Ok(String::new(alloc)),
     }
 }
 
-// Whether a text that is parsed so often has no fault.
-fn work(alloc: Global, text: &String, times: u32) -> bool {
-    let bytes = text.as_bytes();
-    let front = &bytes[..bytes.len().min(LONGEST_TEXT)];
-    let mut parsed = false;
-    for _ in 0..times {
-        parsed = parse(alloc, front).is_ok();
-    }
-    parsed
+/// What is done with a text.
+#[derive(Clone, Copy, PartialEq, Eq, Debug)]
+enum Work {
+    Nothing,
+    Parse,
+    Assemble,
 }
 
-// The first letter of the last word, behind a `-`, and whether there is none.
-fn letter(rt: &HostRuntime) -> (u8, bool) {
-    let mut which = (0u8, true);
+// Whether a text has no fault.
+fn is_sound(alloc: Global, text: &[u8], work: Work) -> bool {
+    let front = &text[..text.len().min(LONGEST_TEXT)];
+    match (work, parse(alloc, front)) {
+        (Work::Assemble, Ok(program)) => assemble(alloc, &program).is_ok(),
+        (_, parsed) => parsed.is_ok(),
+    }
+}
+
+// The same of a text that is looked at so often.
+fn is_sound_each_time(alloc: Global, text: &String, work: Work) -> bool {
+    let mut sound = false;
+    let times = if work == Work::Nothing { 0 } else { 10 };
+    for _ in 0..times {
+        sound = is_sound(alloc, text.as_bytes(), work);
+    }
+    sound
+}
+
+// The letter of the last word, and what is to be done.
+fn letter(rt: &HostRuntime) -> (u8, Work) {
+    let mut which = (0u8, Work::Parse);
     if let Ok(args) = env::args(rt) {
         for arg in args.skip(1) {
             match arg.into_bytes().as_slice() {
-                [b'-', byte, ..] => which = (*byte, false),
-                [byte, ..] => which = (*byte, true),
+                [b'-', byte, ..] => which = (*byte, Work::Nothing),
+                [b'+', byte, ..] => which = (*byte, Work::Assemble),
+                [byte, ..] => which = (*byte, Work::Parse),
                 [] => {}
             }
         }
@@ -133,9 +165,8 @@ fn letter(rt: &HostRuntime) -> (u8, bool) {
 }
 
 fn main(rt: HostRuntime) -> Result<ExitCode, Fail> {
-    let (which, parses) = letter(&rt);
+    let (which, work) = letter(&rt);
     let text = text_of(rt.alloc(), which)?;
-    let times = if parses { 10 } else { 0 };
-    let parsed = work(rt.alloc(), &text, times);
-    Ok(ExitCode::from(u8::from(parsed && which == b'c')))
+    let sound = is_sound_each_time(rt.alloc(), &text, work);
+    Ok(ExitCode::from(u8::from(sound && which == b'c')))
 }

@@ -1,8 +1,8 @@
-//! Runs each example through the tool, and compares what it writes with what is stored beside the image.
+//! Runs each example through the tool, and compares what it writes with what is stored beside it.
 #![tactic(auto)]
 
 use anyhow::Result;
-use nxt_edge::{FileSource, MemSink, SureSink};
+use nxt_edge::{FileSource, MemSink, Source, SureSink, SureSource};
 use nxt_tool::nxt;
 use std::alloc::Global;
 use std::fs;
@@ -13,13 +13,19 @@ use std::process::ExitCode;
 enum Command {
     /// `run rxe NAME.rxe NAME.csv`, which is to write NAME.report.
     Run,
+    /// `run nbc NAME.nbc NAME.csv`, which is to write NAME.report.
+    RunText,
     /// `check NAME.rxe`, which is to write NAME.check.
     Check,
     /// `list NAME.rxe`, which is to write NAME.list.
     List,
+    /// `asm NAME.nbc IMAGE`, which is to write NAME.rxe.
+    Assemble,
+    /// The same, and then `run rxe IMAGE NAME.csv`, which is to write NAME.report.
+    AssembleAndRun,
 }
 
-const EXAMPLES: [(&str, Command); 30] = [
+const EXAMPLES: [(&str, Command); 49] = [
     ("motor", Command::Run),
     ("rising", Command::Run),
     ("average", Command::Run),
@@ -30,13 +36,21 @@ const EXAMPLES: [(&str, Command); 30] = [
     ("night_watch", Command::Run),
     ("line_follower", Command::Run),
     ("bumper", Command::Run),
+    ("route", Command::Run),
     ("lost_jump", Command::Run),
+    ("shared_motor", Command::RunText),
+    ("median", Command::RunText),
+    ("night_watch", Command::RunText),
+    ("line_follower", Command::RunText),
+    ("bumper", Command::RunText),
+    ("route", Command::RunText),
     ("motor", Command::Check),
     ("average", Command::Check),
     ("log", Command::Check),
     ("fills", Command::Check),
     ("line_follower", Command::Check),
     ("bumper", Command::Check),
+    ("route", Command::Check),
     ("list", Command::Check),
     ("shared_row", Command::Check),
     ("motor", Command::List),
@@ -49,51 +63,75 @@ const EXAMPLES: [(&str, Command); 30] = [
     ("night_watch", Command::List),
     ("line_follower", Command::List),
     ("bumper", Command::List),
+    ("route", Command::List),
     ("list", Command::List),
+    ("shared_motor", Command::Assemble),
+    ("median", Command::Assemble),
+    ("night_watch", Command::Assemble),
+    ("route", Command::Assemble),
+    ("shared_motor", Command::AssembleAndRun),
+    ("median", Command::AssembleAndRun),
+    ("night_watch", Command::AssembleAndRun),
+    ("line_follower", Command::AssembleAndRun),
+    ("bumper", Command::AssembleAndRun),
+    ("route", Command::AssembleAndRun),
 ];
 
 // The name of the file that holds what is due.
 fn due_name(alloc: Global, name: &str, command: Command) -> Result<String> {
     match command {
-        Command::Run => Ok(format!(in alloc; "{name}.report")?),
+        Command::Run | Command::RunText | Command::AssembleAndRun => Ok(format!(in alloc;
+            "{name}.report"
+        )?),
         Command::Check => Ok(format!(in alloc; "{name}.check")?),
         Command::List => Ok(format!(in alloc; "{name}.list")?),
+        Command::Assemble => Ok(format!(in alloc; "{name}.rxe")?),
     }
-}
-
-fn words_of(alloc: Global, name: &str, command: Command) -> Result<Vec<Vec<u8>>> {
-    let mut words = Vec::new(alloc);
-    match command {
-        Command::Run => {
-            words.push(b"run".to_vec(alloc)?)?;
-            words.push(b"rxe".to_vec(alloc)?)?;
-            words.push(format!(in alloc; "{name}.rxe")?.into_bytes())?;
-            words.push(format!(in alloc; "{name}.csv")?.into_bytes())?;
-        }
-        Command::Check => {
-            words.push(b"check".to_vec(alloc)?)?;
-            words.push(format!(in alloc; "{name}.rxe")?.into_bytes())?;
-        }
-        Command::List => {
-            words.push(b"list".to_vec(alloc)?)?;
-            words.push(format!(in alloc; "{name}.rxe")?.into_bytes())?;
-        }
-    }
-    Ok(words)
 }
 
 fn source_of(rt: &HostRuntime, path: String) -> Result<FileSource<HostRuntime>> {
     Ok(FileSource::new(rt.clone()?, Some(path)))
 }
 
-// What the tool writes.
-fn written(rt: &HostRuntime, name: &str, command: Command) -> Result<Vec<u8>> {
+// What the tool writes as a report, for words of which the last names no file that is read.
+fn report_of(
+    rt: &HostRuntime,
+    words: &[&str],
+    program: &mut impl Source,
+    name: &str,
+) -> Result<Vec<u8>> {
     let alloc = rt.alloc();
-    let words = words_of(alloc, name, command)?;
-    let mut program = source_of(rt, format!(in alloc; "{name}.rxe")?)?;
+    let words = words_of(alloc, words)?;
     let mut script = source_of(rt, format!(in alloc; "{name}.csv")?)?;
     let mut image = SureSink::new();
     let mut report = MemSink::new(alloc, 4096, Vec::new(alloc));
+    nxt(
+        alloc,
+        words.as_slice(),
+        program,
+        &mut script,
+        &mut image,
+        &mut report,
+    );
+    Ok(report.bytes().to_vec(alloc)?)
+}
+
+fn words_of(alloc: Global, texts: &[&str]) -> Result<Vec<Vec<u8>>> {
+    let mut words = Vec::new(alloc);
+    for text in texts {
+        words.push(text.as_bytes().to_vec(alloc)?)?;
+    }
+    Ok(words)
+}
+
+// What the tool writes as the image of a text.
+fn image_of(rt: &HostRuntime, name: &str) -> Result<Vec<u8>> {
+    let alloc = rt.alloc();
+    let words = words_of(alloc, &["asm", "a", "b"])?;
+    let mut program = source_of(rt, format!(in alloc; "{name}.nbc")?)?;
+    let mut script = SureSource::new(Vec::new(alloc));
+    let mut image = MemSink::new(alloc, 4096, Vec::new(alloc));
+    let mut report = SureSink::new();
     nxt(
         alloc,
         words.as_slice(),
@@ -102,21 +140,49 @@ fn written(rt: &HostRuntime, name: &str, command: Command) -> Result<Vec<u8>> {
         &mut image,
         &mut report,
     );
-    Ok(report.bytes().to_vec(alloc)?)
+    Ok(image.bytes().to_vec(alloc)?)
+}
+
+// What the tool writes.
+fn written(rt: &HostRuntime, name: &str, command: Command) -> Result<Vec<u8>> {
+    let mut file = source_of(rt, format!(in rt.alloc(); "{name}.rxe")?)?;
+    match command {
+        Command::Run => report_of(rt, &["run", "rxe", "a", "b"], &mut file, name),
+        Command::RunText => {
+            let mut text = source_of(rt, format!(in rt.alloc(); "{name}.nbc")?)?;
+            report_of(rt, &["run", "nbc", "a", "b"], &mut text, name)
+        }
+        Command::Check => report_of(rt, &["check", "a"], &mut file, name),
+        Command::List => report_of(rt, &["list", "a"], &mut file, name),
+        Command::Assemble => image_of(rt, name),
+        Command::AssembleAndRun => {
+            let mut image = SureSource::new(image_of(rt, name)?);
+            report_of(rt, &["run", "rxe", "a", "b"], &mut image, name)
+        }
+    }
 }
 
 // Whether an example is as expected, which is printed.
 fn is_as_expected(rt: &HostRuntime, name: &str, command: Command) -> Result<bool> {
     let due_name = due_name(rt.alloc(), name, command)?;
-    let due = fs::read_to_string(rt, due_name.as_str())?;
+    let due = fs::read(rt, due_name.as_str())?;
     let written = written(rt, name, command)?;
-    if written.as_slice() == due.as_bytes() {
+    if written.as_slice() == due.as_slice() {
         println!(rt; "{due_name}: as expected")?;
         return Ok(true);
     }
-    let written = str::from_utf8(written.as_slice()).unwrap_or("(no text)\n");
-    println!(rt; "{due_name}: differs. It should be\n{due}and is\n{written}")?;
+    println!(rt; "{due_name}: differs. It should be")?;
+    show(rt, due.as_slice())?;
+    println!(rt; "and is")?;
+    show(rt, written.as_slice())?;
     Ok(false)
+}
+
+// Prints a text.
+fn show(rt: &HostRuntime, text: &[u8]) -> Result<()> {
+    let text = str::from_utf8(text).unwrap_or("(no text)");
+    println!(rt; "{text}")?;
+    Ok(())
 }
 
 fn main(rt: HostRuntime) -> Result<ExitCode> {

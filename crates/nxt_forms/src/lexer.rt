@@ -11,6 +11,9 @@ use crate::pieces::piece_at;
 use crate::token::{Token, Tokens};
 use std::alloc::Global;
 
+/// The most bytes of a text.
+pub const LONGEST_TEXT: usize = 16_777_216;
+
 /// The tokens of a text, or the line at which none begins (NBC Programmer's Guide, "Lexical Rules"). An `Err` for want of
 /// memory says nothing of the text.
 pub fn lex(alloc: Global, text: &[u8]) -> Result<Tokens, NbcFault>

@@ -19,6 +19,6 @@ mod words;
 pub use fault::NbcFault;
 pub use form::{Form, Given, TypeName};
 pub use forms::{Formed, LineForm, forms_of};
-pub use lexer::lex;
+pub use lexer::{LONGEST_TEXT, lex};
 pub use terms::{Names, Term, Terms};
 pub use token::{Token, Tokens};

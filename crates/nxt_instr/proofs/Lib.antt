@@ -1,3 +1,3 @@
 pub mod Placing
 pub mod SpelledLaws
-pub mod LongForms
+pub mod Laws

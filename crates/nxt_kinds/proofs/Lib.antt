@@ -1,3 +1,5 @@
+-- What holds of the operands of every text.
+pub mod Laws
 -- Shapes that convert to one another convert to the same shapes.
 mod Conversions
 -- Shapes for kinds, and types of these kinds.
@@ -26,5 +28,3 @@ mod SortsInTurn
 mod MutexTypes
 -- The least operand that a test finds, counted from 1.
 mod LeastOperands
--- The first operand of a line that is of a wrong kind, and the first line that has one.
-mod FirstWrong

@@ -2,6 +2,7 @@
 use Rattle.std.specs.Prelude.{◌≡◌, ℕ, List, find, if◌then◌else◌, Option, Some, None}
 use Rattle.nxt_types.specs.Shapes.{Members, some_list}
 use Rattle.nxt_rxe.specs.declared.parts.Parts.{Parts}
+use Rattle.nxt_model.specs.Image.{Image}
 use Rattle.nxt_model.specs.Values.{Value, lists_in}
 use Rattle.nxt_model.specs.Footprint.{footprint, rows_for}
 use Rattle.nxt_model.specs.Reading.{Memory, HeldList, ReadsAs, row_count}
@@ -51,3 +52,17 @@ rows_at_start p ss vars = rows_for (file_rows p ss) (lists_in vars)
 -- the footprint at the start
 abbrev pub start_footprint : Parts → Members → Value → ℕ
 start_footprint p ss vars = footprint p.header.static_size (rows_at_start p ss vars) ss vars
+
+-- the image of a file's parts, whose variables have these shapes and start with these values
+abbrev pub image_of : Parts → Members → Value → Image
+image_of p ss vars =
+    record {
+      entries = p.toc;
+      shapes = ss;
+      values = vars;
+      rows = rows_at_start p ss vars;
+      static_size = p.header.static_size;
+      clumps = p.clumps;
+      dependents = p.dependents;
+      words = p.code;
+    }

@@ -3,8 +3,8 @@
 ghost use Rattle.std.specs.Prelude.{◌≡◌, ◌<◌, ℕ, ◌+◌, Bool, false, ◌||◌, max, min, nat_lt};
 ghost use Rattle.nxt_names.specs.Extents.{extent, too_many_entries, too_many_nested};
 
-/// The most table entries of a declared type.
-const MOST_ENTRIES: u32 = 49_151;
+use nxt_types::words::MOST_ENTRIES;
+
 /// The most arrays and structs around one part of a declared type.
 const MOST_NESTED: u32 = 8;
 

@@ -4,3 +4,5 @@
 pub mod Tables
 -- Where statements begin, with one more statement or block at the end.
 pub mod Words
+-- The elements of arrays that are too large.
+pub mod LargeElements

@@ -26,7 +26,5 @@ mod CodeWords
 mod DefaultLeaves
 -- The rows and the bytes of lists, one after another.
 mod ListRows
--- The elements of arrays that are too large.
-pub mod LargeElements
 -- The types of variables and constants, one after another.
 mod TypeLists

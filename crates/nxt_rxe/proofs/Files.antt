@@ -4,8 +4,8 @@
 pub mod OneList
 -- What is read is a file of its parts.
 pub mod Found
--- What is written is a file of its parts.
-pub mod RoundTrip
+-- Sections and pads, one after another.
+pub mod Joined
 -- Sections that lie in the file.
 pub mod Sections
 -- Bytes as items one behind another.

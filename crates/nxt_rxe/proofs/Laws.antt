@@ -1,4 +1,7 @@
 -- A file that breaks no rule has parts, and each file has parts or is refused.
+
+-- What is written is a file of its parts.
+pub mod Written
 use Rattle.std.proofs.Common.{◌≡◌, ℕ, ◌^◌, ◌<◌, ◌≤◌, Bool, true, false, List, length, refl, ◌∙◌, arith, ltb-true, ltb-false, eq-eqb, eqb-true, inl, inr, ◌⊎◌}
 use Rattle.std.proofs.lemmas.Bool.{cases_lt, and_parts, false_from_ne_true}
 use Rattle.std.proofs.lemmas.List.Elements.{All-from_recursion}

@@ -9,4 +9,5 @@ mod script;
 mod text;
 
 pub use fault::ScriptFault;
+pub use number::{Range, number_in};
 pub use script::Script;

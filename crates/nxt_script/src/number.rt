@@ -1,4 +1,4 @@
-// Numbers of a script's fields.
+// Numbers of fields.
 
 ghost use Rattle.std.specs.Prelude.{◌≡◌, IfSome, ◌≤ℤ◌};
 ghost use Rattle.nxt_script.specs.RowForms.{unsigned_number, signed_number, number_in};
@@ -35,13 +35,13 @@ fn signed(field: &[u8]) -> Option<i64>
 
 /// The numbers from a least to a greatest one.
 #[derive(Clone, Copy)]
-pub(crate) struct Range {
+pub struct Range {
     pub least: i64,
     pub greatest: i64,
 }
 
 /// The number that a field spells, if it is in a range. A minus may stand where the range has negative numbers.
-pub(crate) fn number(field: &[u8], range: &Range) -> Option<i64>
+pub fn number_in(field: &[u8], range: &Range) -> Option<i64>
     ensures value { result ≡ number_in (record { least = range.now.least; greatest = range.now.greatest }) field.now }
     ensures within { IfSome result (λ z. (range.now.least ≤ℤ z) × (z ≤ℤ range.now.greatest)) }
 {

@@ -6,7 +6,7 @@ ghost use Rattle.hex.specs.Hex.{decode_of};
 ghost use Rattle.nxt_script.specs.RowForms.{forms, numbers_in, row_by, row_of, short_telegram, telegram_by};
 ghost use Rattle.nxt_script.specs.declared.number.Range.{Range};
 
-use crate::number::{Range, number};
+use crate::number::{Range, number_in};
 use csv::ByteRecord;
 use hex::FromHexError;
 use nxt_model::event::{Event, ScriptRow};
@@ -70,7 +70,7 @@ fn numbers<const N: usize>(fields: &ByteRecord, ranges: &[Range; N]) -> Option<[
     let mut found = [0; N];
     for (i, range) in ranges.iter().enumerate() {
         let field = fields.get(i + 1)?;
-        found[i] = number(field, range)?;
+        found[i] = number_in(field, range)?;
     }
     if fields.len() > N + 1 {
         return None;

@@ -20,11 +20,11 @@ use Rattle.nxt_model.specs.declared.nbc.NbcBlock.{NbcBlock}
 use Rattle.nxt_model.specs.declared.nbc.NbcStatement.{NbcStatement}
 use Rattle.nxt_model.specs.Assembled.{arg_word, block_words, code_op, has_constant, records_from, starts_from, word_count}
 use Rattle.nxt_model.specs.TextProgram.{Text}
-use Rattle.nxt_asm.specs.AsmRules.{far_in_blocks, far_in_body, is_far, jumps_far}
-use Rattle.nxt_asm.proofs.SoundLists.{Each, each_append, each_got}
+use Rattle.nxt_limits.specs.AsmRules.{far_in_blocks, far_in_body, is_far, jumps_far}
+use Rattle.nxt_sound.proofs.Laws.Lists.{Each, each_append, each_got}
 use Rattle.nxt_sound_code.specs.Kept.{Closes, JumpsBelow, LeadsBelow}
 use Rattle.nxt_sound_code.specs.Placed.{placed_body, placed_from, spelled}
-use Rattle.nxt_sound_code.proofs.Landings.{landing-near, start_begins}
+use Rattle.nxt_sound_code.proofs.Laws.Landings.{landing-near, start_begins}
 
 -- ---- tests of statements
 

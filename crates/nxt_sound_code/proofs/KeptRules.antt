@@ -17,12 +17,12 @@ use Rattle.nxt_model.specs.declared.nbc.NbcBlock.{NbcBlock}
 use Rattle.nxt_model.specs.Assembled.{all_shapes, arg_word, code_from, records_from}
 use Rattle.nxt_model.specs.TextProgram.{Text}
 use Rattle.nxt_parts.specs.Codable.{IsCodableBlock}
-use Rattle.nxt_asm.specs.AsmRules.{far_in_blocks}
-use Rattle.nxt_asm.proofs.Counts.{records_length}
-use Rattle.nxt_asm.proofs.SoundLists.{Each, each_weaker}
+use Rattle.nxt_limits.specs.AsmRules.{far_in_blocks}
+use Rattle.nxt_limits.proofs.Laws.Counts.{records_length}
+use Rattle.nxt_sound.proofs.Laws.Lists.{Each, each_weaker}
 use Rattle.nxt_sound_code.specs.Kept.{Closes, HasFit, IsKept}
 use Rattle.nxt_sound_code.specs.Placed.{placed_from, spelled}
-use Rattle.nxt_sound_code.proofs.Decoded.{statements-code_from}
+use Rattle.nxt_sound_code.proofs.Laws.Decoded.{statements-code_from}
 use Rattle.nxt_sound_code.proofs.KeptCode.{Ends, blocks_lead, code_ends, dependent_below, dependent_lists-records, each_placed, none_at, record_begins}
 use Rattle.nxt_sound_code.proofs.Tiled.{begins_between, code_tiled, due_spelled, either_true, first_spelled, none_inside}
 

@@ -1,11 +1,7 @@
--- The entries of operands name their parts.
-pub mod Operands
--- The statements of a program's code are those of its blocks.
-pub mod Decoded
+-- What holds of the code of every assembled text.
+pub mod Laws
 -- Statements that stand one behind another: where they begin, what lies inside, and where one is due.
 mod Tiled
--- The landings of jumps.
-pub mod Landings
 -- The clumps and the statements of blocks that keep the rules.
 mod KeptCode
 -- The code of blocks that keep the rules is accepted.
@@ -38,7 +34,9 @@ mod SourceBlocks
 mod SourceThere
 -- What is known of a text that keeps the rules.
 mod SourceTexts
--- What the operands of an accepted text name is there.
-pub mod OperandsThere
--- The code of an accepted text is accepted.
-pub mod Accepted
+-- Immediates that are allowed are no greatest words.
+mod Narrow
+-- The operands of a text's statements are of the classes that their words are read by.
+mod SourceSuits
+-- The operands of a text that keeps the rules are of the classes that their words are read by.
+mod SuitedBlocks

@@ -17,7 +17,7 @@ use Rattle.nxt_model.specs.declared.nbc.NbcBlock.{NbcBlock}
 use Rattle.nxt_model.specs.declared.nbc.NbcStatement.{NbcStatement}
 use Rattle.nxt_model.specs.Assembled.{place_among}
 use Rattle.nxt_model.specs.TextProgram.{Text, all_args, constant, constants, distinct, numbers_in, returns, subroutines, texts, texts_in}
-use Rattle.nxt_asm.proofs.SoundLists.{Each, each_weaker}
+use Rattle.nxt_sound.proofs.Laws.Lists.{Each, each_weaker}
 
 -- ---- places
 

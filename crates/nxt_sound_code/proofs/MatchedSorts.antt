@@ -9,15 +9,9 @@ use Rattle.nxt_types.specs.declared.instr.Op.{Op}
 use Rattle.nxt_types.specs.declared.instr.Op.TheVariants as ops
 use Rattle.nxt_types.specs.declared.opcodes.Class.{Class}
 use Rattle.nxt_types.specs.declared.opcodes.Class.TheVariants.{Anything, Immediate, Clumped, Offset, Text}
+use Rattle.nxt_sound_code.specs.Suits.{is_part_class}
 
 -- ---- sorts side by side
-
--- a class of parts of variables
-abbrev pub is_part_class : Class → Bool
-is_part_class Immediate = false
-is_part_class Clumped = false
-is_part_class Offset = false
-is_part_class c = true
 
 -- an operand by its term and by its word, in a program of so many blocks
 abbrev pub Matches : ℕ → Class → Sort → Sort → Type 0

@@ -1,5 +1,5 @@
 -- What the lines of a place may be.
-use Rattle.std.proofs.Common.{ℕ, Bool, true, false, ◌&&◌, ◌==◌, List, [], ◌∷◌, length, map, nat_le, Option, Some, None}
+use Rattle.std.proofs.Common.{ℕ, Bool, ◌&&◌, ◌==◌, List, [], ◌∷◌, length, map, nat_le, Option, Some, None}
 use Rattle.std.specs.Prelude.{if◌then◌else◌, ⊤, codes, option_map, option_and_then}
 use Rattle.nxt_types.specs.Opcodes.{arity, has_comparison, takes}
 use Rattle.nxt_types.specs.declared.instr.Op.{Op}
@@ -8,8 +8,7 @@ use Rattle.nxt_types.specs.declared.kind.Cmp.TheVariants.{Lt}
 use Rattle.nxt_model.specs.Nbc.Tokens.{Word, Name, Sign}
 use Rattle.nxt_model.specs.Nbc.Forms as forms
 use Rattle.nxt_model.specs.Nbc.Forms.{Form, Formed, Open, Place, InData, InStruct, InThread, InSubroutine, Term, all_of, bad_at, brackets, by_commas, body_form, compared, comparison_word, data_form, declaration, declared, ends_empty, form_in, formed_from, formed_line, given_by, is_keyword, is_sign, is_word, labelled_form, least_bad, member_form, most_operands, named_struct, one_name, open_after, opens_data, ◌or_else◌, put_form, statement_form, statement_op, struct_form, struct_member, subroutine_form, term_of, terms_of, thread_form, two_names, type_name, with_list, with_member, with_term, with_terms}
-
--- ---- forms of a place
+use Rattle.nxt_sound.proofs.Laws.Perhaps.{Perhaps, either, followed, list_fine, mapped, one_of, single_fine, term_fine, two_fine}
 
 -- what a line of a place may be
 abbrev pub Allowed : Place → Form → Type 0
@@ -36,112 +35,73 @@ Allowed InSubroutine (forms.Label l) = ⊤
 Allowed InSubroutine (forms.Do label op cmp ts) = ⊤
 Allowed p f = ⊥
 
-module _ (P : Form → Type 0) where
-  abbrev pub Fine : Option Form → Type 0
-  Fine None = ⊤
-  Fine (Some f) = P f
+-- statements and what else stands in blocks, where they pass a test
+module _ (P : Form → Type 0) (dos : (label : Option (List ℕ)) (op : Op) (cmp : Cmp) (ts : List Term) → P (forms.Do label op cmp ts)) (labels : (l : List ℕ) → P (forms.Label l))
+    (opens : P forms.OpenData) (calls : (t : Term) → P (forms.Call t)) where
+  terms_fine : (label : Option (List ℕ)) (op : Op) (cmp : Cmp) (ts : List Term) → Perhaps P (with_terms label op cmp ts)
+  terms_fine label op cmp ts = one_of P (takes (arity op) (length ts) && nat_le (length ts) most_operands) (Some (forms.Do label op cmp ts)) None (dos label op cmp ts) tt
 
-  -- one of two forms, and the form that another step gives
-  one_of : (c : Bool) (a b : Option Form) → Fine a → Fine b → Fine (if c then a else b)
-  one_of true a b h k = h
-  one_of false a b h k = k
+  -- with a comparison, and with a label
+  compared_fine : (label : Option (List ℕ)) (op : Op) (ps : List (List Word)) → Perhaps P (compared label op ps)
+  compared_fine label op [] = tt
+  compared_fine label op (first ∷ others) =
+      followed P (λ cmp. option_and_then (with_terms label op cmp) (all_of (map term_of others))) (comparison_word first)
+      (λ cmp. followed P (with_terms label op cmp) (all_of (map term_of others)) (λ ts. terms_fine label op cmp ts))
 
-  either : (a b : Option Form) → Fine a → Fine b → Fine (a or_else b)
-  either (Some f) b h k = h
-  either None b h k = k
+  statement_fine : (label : Option (List ℕ)) (ws : List Word) → Perhaps P (statement_form label ws)
+  statement_fine label (Name n ∷ ws) =
+      followed P (λ op. if has_comparison op then compared label op (by_commas ws) else option_and_then (with_terms label op Lt) (terms_of ws)) (statement_op n)
+      (λ op. one_of P (has_comparison op) (compared label op (by_commas ws)) (option_and_then (with_terms label op Lt) (terms_of ws)) (compared_fine label op (by_commas ws))
+      (followed P (with_terms label op Lt) (terms_of ws) (λ ts. terms_fine label op Lt ts)))
+  statement_fine label _ = tt
 
-  then_fine : {A : Type 0} (g : A → Option Form) (o : Option A) → ((x : A) → Fine (g x)) → Fine (option_and_then g o)
-  then_fine g None h = tt
-  then_fine g (Some x) h = h x
+  labelled_fine : (ws : List Word) → Perhaps P (labelled_form ws)
+  labelled_fine (Name l ∷ Sign b ∷ []) = one_of P (b == 58) (Some (forms.Label l)) (statement_form None (Name l ∷ Sign b ∷ [])) (labels l) (statement_fine None (Name l ∷ Sign b ∷ []))
+  labelled_fine (Name l ∷ Sign b ∷ w ∷ ws) =
+      one_of P (b == 58) (statement_form (Some l) (w ∷ ws)) (statement_form None (Name l ∷ Sign b ∷ w ∷ ws)) (statement_fine (Some l) (w ∷ ws))
+      (statement_fine None (Name l ∷ Sign b ∷ w ∷ ws))
+  labelled_fine ws = statement_fine None ws
 
-  mapped : {A : Type 0} (g : A → Form) (o : Option A) → ((x : A) → P (g x)) → Fine (option_map g o)
-  mapped g None h = tt
-  mapped g (Some x) h = h x
-
-  -- words of one form
-  two_fine : (a b : List ℕ) (f : Form) → P f → (ws : List Word) → Fine (two_names a b f ws)
-  two_fine a b f h (v ∷ w ∷ []) = one_of (is_word v a && is_word w b) (Some f) None h tt
-  two_fine a b f h _ = tt
-
-  single_fine : (a : List ℕ) (f : Form) → P f → (ws : List Word) → Fine (one_name a f ws)
-  single_fine a f h (w ∷ []) = one_of (is_word w a) (Some f) None h tt
-  single_fine a f h _ = tt
-
-  term_fine : (a : List ℕ) (g : Term → Form) → ((t : Term) → P (g t)) → (ws : List Word) → Fine (with_term a g ws)
-  term_fine a g h [] = tt
-  term_fine a g h (v ∷ ws) = one_of (is_word v a) (option_map g (term_of ws)) None (mapped g (term_of ws) h) tt
-
-  list_fine : (a : List ℕ) (g : List Term → Form) → ((ts : List Term) → P (g ts)) → (ws : List Word) → Fine (with_list a g ws)
-  list_fine a g h [] = tt
-  list_fine a g h (v ∷ ws) = one_of (is_word v a) (option_map g (terms_of ws)) None (mapped g (terms_of ws) h) tt
-
-  -- statements, where they are fine
-  module _ (dos : (label : Option (List ℕ)) (op : Op) (cmp : Cmp) (ts : List Term) → P (forms.Do label op cmp ts)) (labels : (l : List ℕ) → P (forms.Label l))
-      (opens : P forms.OpenData) (calls : (t : Term) → P (forms.Call t)) where
-    terms_fine : (label : Option (List ℕ)) (op : Op) (cmp : Cmp) (ts : List Term) → Fine (with_terms label op cmp ts)
-    terms_fine label op cmp ts = one_of (takes (arity op) (length ts) && nat_le (length ts) most_operands) (Some (forms.Do label op cmp ts)) None (dos label op cmp ts) tt
-
-    -- with a comparison, and with a label
-    compared_fine : (label : Option (List ℕ)) (op : Op) (ps : List (List Word)) → Fine (compared label op ps)
-    compared_fine label op [] = tt
-    compared_fine label op (first ∷ others) =
-        then_fine (λ cmp. option_and_then (with_terms label op cmp) (all_of (map term_of others))) (comparison_word first)
-        (λ cmp. then_fine (with_terms label op cmp) (all_of (map term_of others)) (λ ts. terms_fine label op cmp ts))
-
-    statement_fine : (label : Option (List ℕ)) (ws : List Word) → Fine (statement_form label ws)
-    statement_fine label (Name n ∷ ws) =
-        then_fine (λ op. if has_comparison op then compared label op (by_commas ws) else option_and_then (with_terms label op Lt) (terms_of ws)) (statement_op n)
-        (λ op. one_of (has_comparison op) (compared label op (by_commas ws)) (option_and_then (with_terms label op Lt) (terms_of ws)) (compared_fine label op (by_commas ws))
-        (then_fine (with_terms label op Lt) (terms_of ws) (λ ts. terms_fine label op Lt ts)))
-    statement_fine label _ = tt
-
-    labelled_fine : (ws : List Word) → Fine (labelled_form ws)
-    labelled_fine (Name l ∷ Sign b ∷ []) = one_of (b == 58) (Some (forms.Label l)) (statement_form None (Name l ∷ Sign b ∷ [])) (labels l) (statement_fine None (Name l ∷ Sign b ∷ []))
-    labelled_fine (Name l ∷ Sign b ∷ w ∷ ws) =
-        one_of (b == 58) (statement_form (Some l) (w ∷ ws)) (statement_form None (Name l ∷ Sign b ∷ w ∷ ws)) (statement_fine (Some l) (w ∷ ws))
-        (statement_fine None (Name l ∷ Sign b ∷ w ∷ ws))
-    labelled_fine ws = statement_fine None ws
-
-    -- a line of either kind of block
-    body_fine : (ws : List Word) → Fine (body_form ws)
-    body_fine ws =
-        either (opens_data ws) (with_term (codes "call") forms.Call ws or_else labelled_form ws) (two_fine (codes "dseg") (codes "segment") forms.OpenData opens ws)
-        (either (with_term (codes "call") forms.Call ws) (labelled_form ws) (term_fine (codes "call") forms.Call calls ws) (labelled_fine ws))
+  -- a line of either kind of block
+  body_fine : (ws : List Word) → Perhaps P (body_form ws)
+  body_fine ws =
+      either P (opens_data ws) (with_term (codes "call") forms.Call ws or_else labelled_form ws) (two_fine P (codes "dseg") (codes "segment") forms.OpenData opens ws)
+      (either P (with_term (codes "call") forms.Call ws) (labelled_form ws) (term_fine P (codes "call") forms.Call calls ws) (labelled_fine ws))
 
 -- declarations
-declared_fine : (ws : List Word) → Fine (Allowed InData) (declared ws)
+declared_fine : (ws : List Word) → Perhaps (Allowed InData) (declared ws)
 declared_fine (Name n ∷ Name t ∷ ws) =
     let P = Allowed InData in
     let b = brackets ws in
     one_of P (is_keyword t) None (option_map (forms.Declare n (type_name t b.0)) (given_by t b.0 b.1)) tt (mapped P (forms.Declare n (type_name t b.0)) (given_by t b.0 b.1) (λ g. tt))
 declared_fine _ = tt
 
-named_fine : (ws : List Word) → Fine (Allowed InData) (named_struct ws)
+named_fine : (ws : List Word) → Perhaps (Allowed InData) (named_struct ws)
 named_fine (Name n ∷ w ∷ []) = one_of (Allowed InData) (is_word w (codes "struct")) (Some (forms.OpenStruct n)) None tt tt
 named_fine _ = tt
 
-pub data_fine : (ws : List Word) → Fine (Allowed InData) (data_form ws)
+pub data_fine : (ws : List Word) → Perhaps (Allowed InData) (data_form ws)
 data_fine ws =
     let P = Allowed InData in
     either P (two_names (codes "dseg") (codes "ends") forms.CloseData ws) (named_struct ws or_else declared ws)
     (two_fine P (codes "dseg") (codes "ends") forms.CloseData tt ws) (either P (named_struct ws) (declared ws) (named_fine ws) (declared_fine ws))
 
 -- members
-member_fine : (m : List ℕ) (h : Bool) (name t : List ℕ) (b : ℕ × List Word) → Fine (Allowed (InStruct m h)) (member_form name t b)
+member_fine : (m : List ℕ) (h : Bool) (name t : List ℕ) (b : ℕ × List Word) → Perhaps (Allowed (InStruct m h)) (member_form name t b)
 member_fine m h name t (arrays, []) = one_of (Allowed (InStruct m h)) (is_keyword t) None (Some (forms.Member name (type_name t arrays))) tt tt
 member_fine m h name t (arrays, w ∷ ws) = tt
 
-struct_member_fine : (m : List ℕ) (h : Bool) (ws : List Word) → Fine (Allowed (InStruct m h)) (struct_member ws)
+struct_member_fine : (m : List ℕ) (h : Bool) (ws : List Word) → Perhaps (Allowed (InStruct m h)) (struct_member ws)
 struct_member_fine m h (Name n ∷ Name t ∷ ws) = member_fine m h n t (brackets ws)
 struct_member_fine m h _ = tt
 
-pub struct_fine : (m : List ℕ) (h : Bool) (ws : List Word) → Fine (Allowed (InStruct m h)) (struct_form m ws)
+pub struct_fine : (m : List ℕ) (h : Bool) (ws : List Word) → Perhaps (Allowed (InStruct m h)) (struct_form m ws)
 struct_fine m h ws =
     either (Allowed (InStruct m h)) (two_names m (codes "ends") forms.CloseStruct ws) (struct_member ws)
     (two_fine (Allowed (InStruct m h)) m (codes "ends") forms.CloseStruct tt ws) (struct_member_fine m h ws)
 
 -- lines of threads and subroutines
-pub thread_fine : (ws : List Word) → Fine (Allowed InThread) (thread_form ws)
+pub thread_fine : (ws : List Word) → Perhaps (Allowed InThread) (thread_form ws)
 thread_fine ws =
     let P = Allowed InThread in
     let body = body_fine P (λ label op cmp ts. tt) (λ l. tt) tt (λ t. tt) ws in
@@ -155,7 +115,7 @@ thread_fine ws =
     (either P (one_name (codes "exit") forms.Exit ws) exits (single_fine P (codes "exit") forms.Exit tt ws)
     (either P (with_term (codes "exitto") forms.ExitTo ws) (body_form ws) (term_fine P (codes "exitto") forms.ExitTo (λ t. tt) ws) body))))
 
-pub subroutine_fine : (ws : List Word) → Fine (Allowed InSubroutine) (subroutine_form ws)
+pub subroutine_fine : (ws : List Word) → Perhaps (Allowed InSubroutine) (subroutine_form ws)
 subroutine_fine ws =
     let P = Allowed InSubroutine in
     let body = body_fine P (λ label op cmp ts. tt) (λ l. tt) tt (λ t. tt) ws in

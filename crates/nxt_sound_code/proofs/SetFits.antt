@@ -31,7 +31,7 @@ use Rattle.nxt_sound_code.proofs.TermOperands.{number_entry, part_same, return_e
 -- ---- sets
 
 -- what is set is no constant
-plain_first : (d : Denoted) → is_of_class 1 Written (sort_of_denoted Written true d) ≡ true → is_constant (denoted_arg Written d) ≡ false
+pub plain_first : (d : Denoted) → is_of_class 1 Written (sort_of_denoted Written true d) ≡ true → is_constant (denoted_arg Written d) ≡ false
 plain_first (ANumber z) e = absurd (both_ways false refl e)
 plain_first (AVariable i path s) e = refl
 plain_first (AText bytes) e = refl

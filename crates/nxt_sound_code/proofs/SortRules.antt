@@ -91,7 +91,7 @@ module _ (n len : ℕ) (os ws : List Sort) where
 -- ---- pairs
 
 -- a position among pairs is that of a value, or of a property that is in range
-pair_at : (m : ℕ) (xs : List Sort) (j : ℕ) → j < length xs → slice_index_or (pairs_fit 14 xs) j true ≡ true
+pub pair_at : (m : ℕ) (xs : List Sort) (j : ℕ) → j < length xs → slice_index_or (pairs_fit 14 xs) j true ≡ true
     → (slice_index_or (pairs_of Immediate Read m) j Immediate ≡ Read)
     ⊎ ((slice_index_or (pairs_of Immediate Read m) j Immediate ≡ Immediate) × (nat_le (word_of (sort_at xs j)) 14 ≡ true)) ⊎ (length (pairs_of Immediate Read m) < suc j)
 pair_at zero xs j lt e = inr (inr (omega arith))

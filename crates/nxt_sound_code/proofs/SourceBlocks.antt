@@ -18,8 +18,8 @@ use Rattle.nxt_model.specs.Nbc.NbcRules.{is_subroutine, is_wrong_term}
 use Rattle.nxt_model.specs.Nbc.Text.{Source, Block, Denoted, AVariable, ANumber, AText, ABlock, AType, Missing, LabelAt, args_of, denoted, dependents_of, ending, followers_of, holds_number, labels_from, named_block, numbered, once, ordered, preceded_by, program_block, program_of, returning, statement, statements_in}
 use Rattle.nxt_model.specs.Assembled.{all_shapes}
 use Rattle.nxt_model.specs.TextProgram.{returns, subroutine_number}
-use Rattle.nxt_asm.proofs.SoundDependents.{followers_below, length-ordered, length-program_of, line_below, term_below}
-use Rattle.nxt_asm.proofs.SoundLists.{Each, each_all, each_append, each_both, each_flat, each_map, each_weaker}
+use Rattle.nxt_sound.proofs.Laws.Dependents.{followers_below, length-ordered, length-program_of, line_below, term_below}
+use Rattle.nxt_sound.proofs.Laws.Lists.{Each, each_all, each_append, each_both, each_flat, each_map, each_weaker}
 use Rattle.nxt_sound_code.specs.Kept.{HasFit, IsKept, JumpsBelow}
 use Rattle.nxt_sound_code.specs.Lines.{GoodItems}
 use Rattle.nxt_sound_code.proofs.Listed.{IsListed, blocks_listed, each_parts, length-returns, return_below}
@@ -94,7 +94,7 @@ in_place sub ((l, f) ∷ fs) h = (tt, in_place sub fs h)
 module _ (src : Source) (few : sum_by size (all_shapes (program_of src)) ≤ 49151) (parts : (line : ℕ) (t : Term) → HasPart src (denoted src line t))
     (names : (line : ℕ) (t : Term) → NamesBlock src t (denoted src line t)) where
   -- a statement with its operands
-  do_fine : (ls : List LabelAt) (line : ℕ) (label : Option (List ℕ)) (op : Op) (cmp : Cmp) (ts : List Term) → IsKeptLine src ls (line, forms.Do label op cmp ts)
+  pub do_fine : (ls : List LabelAt) (line : ℕ) (label : Option (List ℕ)) (op : Op) (cmp : Cmp) (ts : List Term) → IsKeptLine src ls (line, forms.Do label op cmp ts)
       → Each (IsListed (program_of src)) (args_of src ls line op ts) → IsFine src ls line op ts
   do_fine ls line label op cmp ts h listed = record {
     taken = h.formed.0;

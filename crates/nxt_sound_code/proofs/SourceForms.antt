@@ -8,9 +8,10 @@ use Rattle.nxt_model.specs.Nbc.Forms as forms
 use Rattle.nxt_model.specs.Nbc.Forms.{Form, Formed, Open, Place, InData, InStruct, InThread, InSubroutine, Term, all_of, bad_at, brackets, by_commas, body_form, compared, comparison_word, data_form, declaration, declared, ends_empty, form_in, formed_from, formed_line, given_by, is_keyword, is_sign, is_word, labelled_form, least_bad, member_form, most_operands, named_struct, one_name, open_after, opens_data, ◌or_else◌, put_form, statement_form, statement_op, struct_form, struct_member, subroutine_form, term_of, terms_of, thread_form, two_names, type_name, with_list, with_member, with_term, with_terms}
 use Rattle.nxt_model.specs.Nbc.NbcRules.{is_at}
 use Rattle.nxt_model.specs.Nbc.Text.{blocks_in, items_of}
-use Rattle.nxt_asm.proofs.SoundLists.{Each}
+use Rattle.nxt_sound.proofs.Laws.Lists.{Each}
 use Rattle.nxt_sound_code.specs.Lines.{GoodItems, IsGood}
-use Rattle.nxt_sound_code.proofs.PlaceForms.{Allowed, Fine, data_fine, struct_fine, subroutine_fine, thread_fine}
+use Rattle.nxt_sound.proofs.Laws.Perhaps.{Perhaps}
+use Rattle.nxt_sound_code.proofs.PlaceForms.{Allowed, data_fine, struct_fine, subroutine_fine, thread_fine}
 
 -- ---- what is open
 
@@ -33,20 +34,20 @@ NextOf sub line o None = ⊤
 NextOf sub line o (Some f) = Next sub line o f
 
 -- what may stand in a place leaves the block open, or closes it
-data_next : (sub : Bool) (line l : ℕ) (o : Open) (f : Option Form) → Within sub o → Fine (Allowed InData) f → NextOf sub line ((l, InData) ∷ o) f
+data_next : (sub : Bool) (line l : ℕ) (o : Open) (f : Option Form) → Within sub o → Perhaps (Allowed InData) f → NextOf sub line ((l, InData) ∷ o) f
 data_next sub line l o None w h = tt
 data_next sub line l o (Some forms.CloseData) w h = w
 data_next sub line l o (Some (forms.OpenStruct n)) w h = w
 data_next sub line l o (Some (forms.Declare n t g)) w h = w
 data_next sub line l o (Some f) w h = absurd h
 
-struct_next : (sub : Bool) (line l : ℕ) (m : List ℕ) (b : Bool) (o : Open) (f : Option Form) → Within sub o → Fine (Allowed (InStruct m b)) f → NextOf sub line ((l, InStruct m b) ∷ o) f
+struct_next : (sub : Bool) (line l : ℕ) (m : List ℕ) (b : Bool) (o : Open) (f : Option Form) → Within sub o → Perhaps (Allowed (InStruct m b)) f → NextOf sub line ((l, InStruct m b) ∷ o) f
 struct_next sub line l m b o None w h = tt
 struct_next sub line l m b o (Some forms.CloseStruct) w h = w
 struct_next sub line l m b o (Some (forms.Member n t)) w h = w
 struct_next sub line l m b o (Some f) w h = absurd h
 
-thread_next : (sub : Bool) (line l : ℕ) (o : Open) (f : Option Form) → sub ≡ false → Fine (Allowed InThread) f → NextOf sub line ((l, InThread) ∷ o) f
+thread_next : (sub : Bool) (line l : ℕ) (o : Open) (f : Option Form) → sub ≡ false → Perhaps (Allowed InThread) f → NextOf sub line ((l, InThread) ∷ o) f
 thread_next sub line l o None w h = tt
 thread_next sub line l o (Some forms.CloseBlock) w h = tt
 thread_next sub line l o (Some (forms.Precedes ts)) w h = w
@@ -59,7 +60,7 @@ thread_next sub line l o (Some (forms.Label n)) w h = w
 thread_next sub line l o (Some (forms.Do label op cmp ts)) w h = w
 thread_next sub line l o (Some f) w h = absurd h
 
-subroutine_next : (sub : Bool) (line l : ℕ) (o : Open) (f : Option Form) → sub ≡ true → Fine (Allowed InSubroutine) f → NextOf sub line ((l, InSubroutine) ∷ o) f
+subroutine_next : (sub : Bool) (line l : ℕ) (o : Open) (f : Option Form) → sub ≡ true → Perhaps (Allowed InSubroutine) f → NextOf sub line ((l, InSubroutine) ∷ o) f
 subroutine_next sub line l o None w h = tt
 subroutine_next sub line l o (Some forms.CloseBlock) w h = tt
 subroutine_next sub line l o (Some forms.Return) w h = (w, w)

@@ -15,7 +15,7 @@ use Rattle.nxt_model.specs.Nbc.Forms as forms
 use Rattle.nxt_model.specs.Nbc.Forms.{Form, Term, Named, Literal, Quote}
 use Rattle.nxt_model.specs.Nbc.NbcRules.{is_label, is_subroutine, is_thread, is_unknown, is_wrong_term, lacks_label, sorts_of}
 use Rattle.nxt_model.specs.Nbc.Text.{Source, Denoted, AVariable, ANumber, AText, ABlock, AType, Missing, LabelAt, args_of, denoted, ending, is_statement, label_arg, label_at, label_of, labels_from, named_block, returning, statements_in}
-use Rattle.nxt_asm.proofs.SoundLists.{Each, each_append, each_found, each_weaker}
+use Rattle.nxt_sound.proofs.Laws.Lists.{Each, each_append, each_found, each_weaker}
 use Rattle.nxt_sound_code.specs.Kept.{Closes, LeadsBelow, Stops}
 use Rattle.nxt_sound_code.specs.Lines.{GoodItems}
 use Rattle.nxt_sound_code.proofs.SourceLines.{IsKeptLine}

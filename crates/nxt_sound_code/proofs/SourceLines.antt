@@ -7,9 +7,9 @@ use Rattle.nxt_model.specs.Nbc.Forms as forms
 use Rattle.nxt_model.specs.Nbc.Forms.{Form, Formed}
 use Rattle.nxt_model.specs.Nbc.NbcRules.{TextFault, OutOfRange, UnknownName, WrongKind, at_line, in_blocks, is_out_of_range, is_wrong_kind, tells, uses_unknown, uses_unknown_type}
 use Rattle.nxt_model.specs.Nbc.Text.{Source, Block, LabelAt, blocks_in, is_main, items_of, labels_from, numbered, ordered, source_of}
-use Rattle.nxt_asm.proofs.SoundForms.{LineFormed}
-use Rattle.nxt_asm.proofs.SoundKept.{kept_lines}
-use Rattle.nxt_asm.proofs.SoundLists.{Each, each_append, each_both, each_filter, each_numbered, each_weaker}
+use Rattle.nxt_sound.proofs.Laws.Forms.{LineFormed}
+use Rattle.nxt_sound.proofs.Laws.Kept.{kept_lines}
+use Rattle.nxt_sound.proofs.Laws.Lists.{Each, each_append, each_both, each_filter, each_numbered, each_weaker}
 use Rattle.nxt_sound_code.specs.Lines.{IsGood}
 
 -- a line of a block with these labels

@@ -9,11 +9,11 @@ use Rattle.nxt_model.specs.Nbc.Types.{Found, Struct, StructMember, below, member
 use Rattle.nxt_model.specs.SystemCalls.{field_shape}
 use Rattle.nxt_model.specs.TextProgram as program
 use Rattle.nxt_model.specs.TextProgram.{declared, shape_of_part}
-use Rattle.nxt_asm.proofs.SoundLists.{Each, each_found, each_got}
-use Rattle.nxt_asm.proofs.SoundNamed.{HasType}
-use Rattle.nxt_asm.proofs.SoundPaths.{ArePlain, HasShape, HaveShapes, struct_shape}
+use Rattle.nxt_sound.proofs.Laws.Lists.{Each, each_found, each_got}
+use Rattle.nxt_sound.proofs.Laws.Named.{HasType}
+use Rattle.nxt_sound.proofs.Laws.Paths.{ArePlain, HasShape, HaveShapes, struct_shape}
 use Rattle.nxt_sound_code.specs.There.{LeadsTo}
-use Rattle.nxt_sound_code.proofs.Operands.{shapes_of-members}
+use Rattle.nxt_sound_code.proofs.Laws.Operands.{shapes_of-members}
 
 -- ---- paths
 

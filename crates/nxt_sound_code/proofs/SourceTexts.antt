@@ -11,12 +11,12 @@ use Rattle.nxt_model.specs.Nbc.Tokens.{Token, lines_of, tokens_of}
 use Rattle.nxt_model.specs.Nbc.Types.{types_at}
 use Rattle.nxt_forms.specs.Firsts.{Ascends}
 use Rattle.nxt_forms.proofs.Laws.Ascending.{forms_ascend}
-use Rattle.nxt_asm.proofs.SoundDependents.{length-program_of}
-use Rattle.nxt_asm.proofs.SoundForms.{LineFormed}
-use Rattle.nxt_asm.proofs.SoundKept.{lines_kept}
-use Rattle.nxt_asm.proofs.SoundLines.{each_formed}
-use Rattle.nxt_asm.proofs.SoundLists.{Each}
-use Rattle.nxt_asm.proofs.SoundSource.{types_have, types_plain, variables_typed}
+use Rattle.nxt_sound.proofs.Laws.Dependents.{length-program_of}
+use Rattle.nxt_sound.proofs.Laws.Forms.{LineFormed}
+use Rattle.nxt_sound.proofs.Laws.Kept.{lines_kept}
+use Rattle.nxt_sound.proofs.Laws.Lines.{each_formed}
+use Rattle.nxt_sound.proofs.Laws.Lists.{Each}
+use Rattle.nxt_sound.proofs.Laws.Source.{types_have, types_plain, variables_typed}
 use Rattle.nxt_sound_code.specs.Lines.{IsGood}
 use Rattle.nxt_sound_code.proofs.SourceForms.{blocks_good, no_bad}
 use Rattle.nxt_sound_code.proofs.SourceLines.{blocks_kept, numbered_kept}

@@ -19,7 +19,7 @@ use Rattle.nxt_model.specs.Nbc.Forms.{Form, Term, Named}
 use Rattle.nxt_model.specs.Nbc.NbcRules.{is_subroutine}
 use Rattle.nxt_model.specs.Nbc.Text.{Source, Block, Denoted, AVariable, ANumber, AText, ABlock, AType, Missing, LabelAt, arg_of, denoted, denoted_arg, dependents_of, ending, is_left_out, is_word, label_arg, labels_from, named_block, number_arg, numbered, ordered, program_block, program_of, returning, statement, statements_in}
 use Rattle.nxt_model.specs.TextProgram.{Text, declared, returns, subroutine_number}
-use Rattle.nxt_asm.proofs.SoundLists.{Each, each_all, each_both, each_flat, each_map, each_weaker}
+use Rattle.nxt_sound.proofs.Laws.Lists.{Each, each_all, each_both, each_flat, each_map, each_weaker}
 use Rattle.nxt_sound_code.specs.There.{IsThere, LeadsTo}
 use Rattle.nxt_sound_code.proofs.Listed.{IsListed, blocks_listed}
 use Rattle.nxt_sound_code.proofs.SourceBlocks.{InPlace, in_place, return_there}

@@ -23,7 +23,7 @@ use Rattle.nxt_model.specs.Nbc.Text as text
 use Rattle.nxt_model.specs.Nbc.Text.{Source, Denoted, AVariable, ANumber, AText, ABlock, AType, Missing, LabelAt, arg_of, args_of, denoted, denoted_arg, is_word, number_arg, program_of}
 use Rattle.nxt_model.specs.Assembled.{all_shapes, arg_word, code_op}
 use Rattle.nxt_forms.proofs.Laws.Classes.{count_classes}
-use Rattle.nxt_asm.proofs.SoundLists.{Each}
+use Rattle.nxt_sound.proofs.Laws.Lists.{Each}
 use Rattle.nxt_sound_code.specs.Kept.{HasFit}
 use Rattle.nxt_sound_code.proofs.Listed.{IsListed}
 use Rattle.nxt_sound_code.proofs.MatchedSorts.{AreMatched, Matches}
@@ -34,14 +34,14 @@ use Rattle.nxt_sound_code.proofs.TermOperands.{term_matches}
 -- ---- lists of operands
 
 -- as many pairs as elements
-length-zip : {X Y : Type 0} (xs : List X) (ys : List Y) → length xs ≡ length ys → length (zip xs ys) ≡ length ys
+pub length-zip : {X Y : Type 0} (xs : List X) (ys : List Y) → length xs ≡ length ys → length (zip xs ys) ≡ length ys
 length-zip [] [] e = refl
 length-zip [] (y ∷ ys) e = absurd (omega (arith, e))
 length-zip (x ∷ xs) [] e = absurd (omega (arith, e))
 length-zip (x ∷ xs) (y ∷ ys) e = ap suc (length-zip xs ys (omega (arith, e)))
 
 -- only a set may be another operation in code
-code_op-other : (op : Op) (xs : List NbcArg) → is_set op ≡ false → code_op op xs ≡ op
+pub code_op-other : (op : Op) (xs : List NbcArg) → is_set op ≡ false → code_op op xs ≡ op
 code_op-other ops.Set xs e = absurd (both_ways true e refl)
 code_op-other op xs e = refl
 
@@ -51,7 +51,7 @@ module _ (src : Source) (line : ℕ) (op : Op) where
   length-sorts_from j (x ∷ cts) = ap suc (length-sorts_from (j + 1) cts)
 
   -- the sort of a term by its position
-  sorts_at : (j : ℕ) (cs : List Class) (ts : List Term) (k : ℕ) → length cs ≡ length ts → k < length ts
+  pub sorts_at : (j : ℕ) (cs : List Class) (ts : List Term) (k : ℕ) → length cs ≡ length ts → k < length ts
       → sort_at (sorts_from src line op j (zip cs ts)) k ≡ sort_of_term src line (slice_index_or cs k Immediate) (is_destination op (j + k)) (slice_index_or ts k (Named []))
   sorts_at j [] [] k same lt = absurd (omega (arith, lt))
   sorts_at j [] (t ∷ ts) k same lt = absurd (omega (arith, same))
@@ -116,10 +116,10 @@ module _ (src : Source) (few : sum_by size (all_shapes (program_of src)) ≤ 491
     os = rules.sorts_of src line op ts
 
     -- as many classes and sorts as terms
-    many : length cs ≡ length ts
+    pub many : length cs ≡ length ts
     many = count_classes op (length ts) h.taken
 
-    long : length os ≡ length ts
+    pub long : length os ≡ length ts
     long = length-sorts_from src line op 0 (zip cs ts) ∙ length-zip cs ts many
 
     -- each term is of its kind, and in range
@@ -128,7 +128,7 @@ module _ (src : Source) (few : sum_by size (all_shapes (program_of src)) ≤ 491
         let class : Bool = has_class src line (slice_index_or cs k Immediate) (slice_index_or ts k (Named [])) in
         and_parts class (has_kind 1 op os k) (not-false (class && has_kind 1 op os k) (h.kinds k lt))
 
-    right_number : (k : ℕ) → k < length ts → is_allowed op os k ≡ true
+    pub right_number : (k : ℕ) → k < length ts → is_allowed op os k ≡ true
     right_number k lt =
         let none = none_numbered (is_refused_number src line op ts) 0 ts k lt h.ranges in
         let same : 0 + k ≡ k = omega arith in

@@ -18,22 +18,23 @@ use Rattle.nxt_model.specs.Nbc.NbcRules.{has_class, is_number, is_subroutine, so
 use Rattle.nxt_model.specs.Nbc.Text.{Source, Block, Denoted, AVariable, ANumber, AText, ABlock, AType, Missing, LabelAt, arg_of, denoted, denoted_arg, is_left_out, is_word, number_arg, ordered, program_of}
 use Rattle.nxt_model.specs.Assembled.{all_shapes, arg_word, entry_of, place_among}
 use Rattle.nxt_model.specs.TextProgram.{Text, constant, constants, returns, shape_of_part, subroutine_number, text_shape, texts}
-use Rattle.nxt_asm.proofs.SoundDependents.{length-ordered, length-program_of}
+use Rattle.nxt_sound.proofs.Laws.Dependents.{length-ordered, length-program_of}
+use Rattle.nxt_sound_code.specs.Suits.{is_part_class}
 use Rattle.nxt_sound_code.proofs.Listed.{IsListed}
-use Rattle.nxt_sound_code.proofs.Operands.{declared_at, named_number, named_part, named_return, named_text}
-use Rattle.nxt_sound_code.proofs.MatchedSorts.{Matches, is_part_class}
+use Rattle.nxt_sound_code.proofs.Laws.Operands.{declared_at, named_number, named_part, named_return, named_text}
+use Rattle.nxt_sound_code.proofs.MatchedSorts.{Matches}
 use Rattle.nxt_sound_code.proofs.SourceTerms.{HasPart, NamesBlock}
 
 -- ---- classes of parts
 
 -- a name of nothing is of none, and neither is a word
-unknown_refused : (c : Class) → is_part_class c ≡ true → is_of_class 1 c Unknown ≡ false
+pub unknown_refused : (c : Class) → is_part_class c ≡ true → is_of_class 1 c Unknown ≡ false
 unknown_refused Immediate e = absurd (both_ways false refl e)
 unknown_refused Clumped e = absurd (both_ways false refl e)
 unknown_refused Offset e = absurd (both_ways false refl e)
 unknown_refused c e = refl
 
-word_refused : (c : Class) → is_part_class c ≡ true → is_of_class 1 c (Word 0) ≡ false
+pub word_refused : (c : Class) → is_part_class c ≡ true → is_of_class 1 c (Word 0) ≡ false
 word_refused Immediate e = absurd (both_ways false refl e)
 word_refused Clumped e = absurd (both_ways false refl e)
 word_refused Offset e = absurd (both_ways false refl e)

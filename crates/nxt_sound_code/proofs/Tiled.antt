@@ -15,9 +15,9 @@ use Rattle.nxt_model.specs.declared.nbc.NbcStatement.{NbcStatement}
 use Rattle.nxt_model.specs.Assembled.{block_words, body_words, code_from, starts_from, statement_words, word_count}
 use Rattle.nxt_model.specs.TextProgram.{Text}
 use Rattle.nxt_parts.specs.Codable.{IsCodable, IsCodableBlock}
-use Rattle.nxt_asm.proofs.Counts.{code_length}
+use Rattle.nxt_limits.proofs.Laws.Counts.{code_length}
 use Rattle.nxt_sound_code.specs.Placed.{placed_body, placed_from, spelled}
-use Rattle.nxt_sound_code.proofs.Decoded.{behind_statement, statement_read, word_count_positive}
+use Rattle.nxt_sound_code.proofs.Laws.Decoded.{behind_statement, statement_read, word_count_positive}
 
 -- one of two tests
 pub either_true : (a b : Bool) → (a || b) ≡ true → (a ≡ true) ⊎ (b ≡ true)

@@ -6,3 +6,5 @@ pub mod There
 pub mod Kept
 -- The lines of blocks.
 pub mod Lines
+-- Operands of the classes that their words are read by.
+pub mod Suits

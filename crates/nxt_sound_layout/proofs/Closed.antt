@@ -5,7 +5,8 @@ use Rattle.std.proofs.lemmas.Bool.{not-false}
 use Rattle.nxt_model.specs.Nbc.Tokens.{Line, Word}
 use Rattle.nxt_model.specs.Nbc.Forms as forms
 use Rattle.nxt_model.specs.Nbc.Forms.{Form, Formed, Open, Place, InData, InStruct, InThread, InSubroutine, Term, all_of, by_commas, term_of, terms_of, is_word, brackets, given_by, type_name, member_form, statement_op, with_terms, comparison_word, compared, statement_form, labelled_form, ◌or_else◌, two_names, with_name, one_name, with_term, with_list, include_form, opens_data, top_form, named_struct, declared, declaration, data_form, struct_member, struct_form, body_form, thread_form, subroutine_form, form_in, open_after, ends_empty, put_form, bad_at, least_bad, formed_line, formed_from, formed, is_keyword}
-use Rattle.nxt_sound_layout.proofs.FormPlaces.{Inside, Outside, Perhaps, data_out, struct_in, subroutine_out, thread_out, top_out}
+use Rattle.nxt_sound.proofs.Laws.Perhaps.{Perhaps}
+use Rattle.nxt_sound_layout.proofs.FormPlaces.{Inside, Outside, data_out, struct_in, subroutine_out, thread_out, top_out}
 
 -- ---- structs that end
 

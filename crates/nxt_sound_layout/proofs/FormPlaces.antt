@@ -1,5 +1,5 @@
 -- The forms that stand in structs, and those that stand elsewhere.
-use Rattle.std.proofs.Common.{ℕ, Bool, true, false, ◌&&◌, ◌==◌, List, [], ◌∷◌, Option, Some, None}
+use Rattle.std.proofs.Common.{ℕ, ◌&&◌, ◌==◌, List, [], ◌∷◌, Option, Some, None}
 use Rattle.std.specs.Prelude.{if◌then◌else◌, ⊤, map, codes, bytes_eq, option_map, option_and_then}
 use Rattle.nxt_types.specs.declared.instr.Op.{Op}
 use Rattle.nxt_types.specs.declared.kind.Cmp.{Cmp}
@@ -8,6 +8,7 @@ use Rattle.nxt_types.specs.Opcodes.{has_comparison}
 use Rattle.nxt_model.specs.Nbc.Tokens.{Word, Name, Quoted, Sign}
 use Rattle.nxt_model.specs.Nbc.Forms as forms
 use Rattle.nxt_model.specs.Nbc.Forms.{Form, Formed, Open, Place, InData, InStruct, InThread, InSubroutine, Term, all_of, by_commas, term_of, terms_of, is_word, brackets, given_by, type_name, member_form, statement_op, with_terms, comparison_word, compared, statement_form, labelled_form, ◌or_else◌, two_names, with_name, one_name, with_term, with_list, include_form, opens_data, top_form, named_struct, declared, declaration, data_form, struct_member, struct_form, body_form, thread_form, subroutine_form, form_in, open_after, ends_empty, put_form, bad_at, least_bad, formed_line, formed_from, formed, is_keyword}
+use Rattle.nxt_sound.proofs.Laws.Perhaps.{Perhaps, either, followed, list_fine, mapped, name_fine, one_of, single_fine, term_fine, two_fine}
 
 -- the forms that stand in a struct, and those that stand elsewhere
 abbrev pub Inside : Form → Type 0
@@ -19,47 +20,6 @@ abbrev pub Outside : Form → Type 0
 Outside forms.CloseStruct = ⊥
 Outside (forms.Member n t) = ⊥
 Outside f = ⊤
-
-abbrev pub Perhaps : (Form → Type 0) → Option Form → Type 0
-Perhaps P None = ⊤
-Perhaps P (Some f) = P f
-
-module _ (P : Form → Type 0) where
-  pub one_of : (c : Bool) (a b : Option Form) → Perhaps P a → Perhaps P b → Perhaps P (if c then a else b)
-  one_of true a b h k = h
-  one_of false a b h k = k
-
-  pub either : (a b : Option Form) → Perhaps P a → Perhaps P b → Perhaps P (a or_else b)
-  either (Some f) b h k = h
-  either None b h k = k
-
-  followed : {A : Type 0} (g : A → Option Form) (o : Option A) → ((x : A) → Perhaps P (g x)) → Perhaps P (option_and_then g o)
-  followed g None h = tt
-  followed g (Some x) h = h x
-
-  pub mapped : {A : Type 0} (g : A → Form) (o : Option A) → ((x : A) → P (g x)) → Perhaps P (option_map g o)
-  mapped g None h = tt
-  mapped g (Some x) h = h x
-
-  pub two_fine : (a b : List ℕ) (f : Form) → P f → (ws : List Word) → Perhaps P (two_names a b f ws)
-  two_fine a b f h (v ∷ w ∷ []) = one_of (is_word v a && is_word w b) (Some f) None h tt
-  two_fine a b f h _ = tt
-
-  pub name_fine : (a : List ℕ) (g : List ℕ → Form) → ((n : List ℕ) → P (g n)) → (ws : List Word) → Perhaps P (with_name a g ws)
-  name_fine a g h (v ∷ Name n ∷ []) = one_of (is_word v a) (Some (g n)) None (h n) tt
-  name_fine a g h _ = tt
-
-  pub single_fine : (a : List ℕ) (f : Form) → P f → (ws : List Word) → Perhaps P (one_name a f ws)
-  single_fine a f h (w ∷ []) = one_of (is_word w a) (Some f) None h tt
-  single_fine a f h _ = tt
-
-  pub term_fine : (a : List ℕ) (g : Term → Form) → ((t : Term) → P (g t)) → (ws : List Word) → Perhaps P (with_term a g ws)
-  term_fine a g h [] = tt
-  term_fine a g h (v ∷ ws) = one_of (is_word v a) (option_map g (term_of ws)) None (mapped g (term_of ws) h) tt
-
-  pub list_fine : (a : List ℕ) (g : List Term → Form) → ((ts : List Term) → P (g ts)) → (ws : List Word) → Perhaps P (with_list a g ws)
-  list_fine a g h [] = tt
-  list_fine a g h (v ∷ ws) = one_of (is_word v a) (option_map g (terms_of ws)) None (mapped g (terms_of ws) h) tt
 
 -- ---- outside of structs
 

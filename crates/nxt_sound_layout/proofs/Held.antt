@@ -8,7 +8,7 @@ use Rattle.nxt_types.specs.declared.kind.Kind.TheVariants.{Ubyte, Sbyte, Uword, 
 use Rattle.nxt_model.specs.Values.{Value, Num, GroupOf, elements, group_of, items, list_of, number, value, values, zero_of, zeros_of}
 use Rattle.nxt_parts.specs.AssembledParts.{Valued, defaults_from, leaves_in, leaves_among, number_bytes}
 use Rattle.nxt_parts.specs.Defaults.{array_count}
-use Rattle.nxt_asm.proofs.StartValues.{length-number}
+use Rattle.nxt_limits.proofs.Laws.StartValues.{length-number}
 use Rattle.nxt_facts.proofs.Each.{Each}
 
 -- ---- values

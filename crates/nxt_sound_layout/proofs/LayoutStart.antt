@@ -15,11 +15,11 @@ use Rattle.nxt_layout.specs.Rows.{Ground, has_elements, names_row, numbers_of, r
 use Rattle.nxt_layout.specs.Start.{HasShapes, StartsAs, ground, memory, stride_of, stride_through}
 use Rattle.nxt_layout.proofs.Laws.OneStart.{memory_with_strides}
 use Rattle.nxt_facts.proofs.Each.{Each, each_apart, each_both, each_filter, each_then}
-use Rattle.nxt_sound_layout.proofs.Spelled.{bares-twice}
-use Rattle.nxt_sound_layout.proofs.Parts.{AreParts, AreVariables, IsPart, IsVariable}
+use Rattle.nxt_sound_layout.proofs.Laws.Spelled.{bares-twice}
+use Rattle.nxt_sound_layout.proofs.Laws.Parts.{AreParts, AreVariables, IsPart, IsVariable}
 use Rattle.nxt_sound_layout.proofs.OwnLeaves.{own, all_own, size-bare}
-use Rattle.nxt_sound_layout.proofs.TableKept.{own_leaves, shapes}
-use Rattle.nxt_sound_layout.proofs.Dataspace.{HasData, all_written}
+use Rattle.nxt_sound_layout.proofs.Laws.TableKept.{own_leaves, shapes}
+use Rattle.nxt_sound_layout.proofs.Laws.Dataspace.{HasData, all_written}
 use Rattle.nxt_sound_layout.proofs.Extents.{AllExtents, Extents, all_extents_are, extent_is, far}
 use Rattle.nxt_sound_layout.proofs.Numbers.{AreNumbered, Inside, IsNumbered, Outside, all_numbered, is_list}
 use Rattle.nxt_sound_layout.proofs.Starts.{arrays, arrays_there, few, first_list, lists, reads, whole}

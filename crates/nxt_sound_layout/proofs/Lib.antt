@@ -1,37 +1,29 @@
--- Each shape's entries spell it.
-pub mod Spelled
+-- What holds of the table and the data of every assembled text.
+pub mod Laws
 -- Sums of the sizes that pass a test.
 mod Weights
 -- The places of leaves: they end where all leaves do, and no two share a byte.
 mod Spots
 -- The leaves of a table whose leaves stand by size, by recursion on the shapes.
 mod OwnLeaves
--- Shapes of variables that the rules of texts allow.
-mod Parts
 -- Where the leaves of a table stand: each ends where it may, no two share a byte, and each has its default.
 mod Placed
 -- The static defaults of leaves: each lies within those of all.
 mod Given
 -- A table that spells variables is open nowhere.
 mod Whole
--- A table whose leaves stand by size breaks no rule of tables.
-pub mod TableKept
 -- The forms that stand in structs, and those that stand elsewhere.
 mod FormPlaces
 -- Structs end behind members, where no line of a text is bad.
 mod Closed
 -- The shapes of the variables of a text that keeps the rules, and the starts that they are given.
 mod TextShapes
--- The table of the parts of an assembled text breaks no rule.
-pub mod TableAccepted
 -- Bytes that are written one after another, no two of which share a place, stay as they are.
 mod Writes
 -- Values with which variables start: numbers of their kinds, and lists of numbers.
 mod Held
 -- What is written of the variables in the dataspace.
 mod Written
--- What the dataspace of an assembled text holds.
-pub mod Dataspace
 -- The rows of a table of rows and the bytes of its lists, as they are read.
 mod RowsRead
 -- What is written reads as the values that were written.
@@ -66,5 +58,3 @@ mod ShownForms
 mod ShownBytes
 -- The starting values of a parsed text are those of its variables' shapes.
 mod ShownTexts
--- The parts of an assembled text keep the rules of layout, and start with its values.
-pub mod Accepted

@@ -8,7 +8,7 @@ use Rattle.nxt_types.specs.declared.kind.Kind.{Kind}
 use Rattle.nxt_model.specs.Values.{Value, elements}
 use Rattle.nxt_model.specs.Reading.{AreApart, Block, HeldList, Memory, dope_row, list_block, non_empty, row_count, table_block}
 use Rattle.nxt_parts.specs.AssembledParts.{Valued, element_of, is_array, leaves_in, leaves_among, list_bytes_of, number_bytes}
-use Rattle.nxt_asm.proofs.StartValues.{length-number}
+use Rattle.nxt_limits.proofs.Laws.StartValues.{length-number}
 use Rattle.nxt_facts.specs.Pairs.{EachPair}
 use Rattle.nxt_facts.proofs.Each.{Each, each_join, each_then}
 use Rattle.nxt_sound_layout.proofs.Held.{AreHeld, AreItems, IsHeld}

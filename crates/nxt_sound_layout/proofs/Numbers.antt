@@ -17,12 +17,13 @@ use Rattle.nxt_layout.specs.Rows as rows
 use Rattle.nxt_layout.specs.Rows.{Ground, element_places, elements_of, has_elements, names_row, numbers_at, numbers_of, read_rows, row}
 use Rattle.nxt_facts.specs.Places.{places_from}
 use Rattle.nxt_facts.proofs.Each.{Each, each_filter, each_join, each_then}
+use Rattle.nxt_limits.proofs.Laws.Counts.{entries_length}
 use Rattle.nxt_sound_layout.proofs.OwnLeaves.{leaf, own, all_own}
 use Rattle.nxt_sound_layout.proofs.Held.{AreHeld, AreItems, IsHeld}
 use Rattle.nxt_sound_layout.proofs.Writes.{window}
 use Rattle.nxt_sound_layout.proofs.Written.{AllWritten, Written}
 use Rattle.nxt_sound_layout.proofs.RowsRead.{ArrayIs, ArraysAre, arrays_parts, window_read}
-use Rattle.nxt_sound_layout.proofs.ReadBack.{leaf_there, length-entries}
+use Rattle.nxt_sound_layout.proofs.ReadBack.{leaf_there}
 use Rattle.nxt_sound_layout.proofs.Extents.{AllExtents, Extents}
 
 abbrev pub is_list : Leaf → Bool
@@ -168,7 +169,7 @@ module _ (g : Ground) where
         let joined : filter is_array (leaves_in s v ++ leaves_among ss vs) ≡ x ++ y = filter-append is_array (leaves_in s v) (leaves_among ss vs) in
         let here : g.memory.entries ≡ before ++ (es ++ (fs ++ behind)) = whole ∙ ap (λ l. before ++ l) (append_assoc es fs behind) in
         let later : g.memory.entries ≡ (before ++ es) ++ (fs ++ behind) = here ∙ sym (append_assoc before es (fs ++ behind)) in
-        let longer : length (before ++ es) ≡ i + size s = length-append before es ∙ ap₂ (λ (a b : ℕ). a + b) long (length-entries s ps) in
+        let longer : length (before ++ es) ≡ i + size s = length-append before es ∙ ap₂ (λ (a b : ℕ). a + b) long (entries_length s ps) in
         let both = arrays_parts g.memory.bytes g.memory.table (row_count g.memory) r at x y (subst (ArraysAre g.memory.bytes g.memory.table (row_count g.memory) r at) joined arrays) in
         let sum : length (filter is_array (leaves_in s v ++ leaves_among ss vs)) ≡ length x + length y = ap length joined ∙ length-append x y in
         subst (AreNumbered (all_own (member s ss) ps i []) r) (sym sum)

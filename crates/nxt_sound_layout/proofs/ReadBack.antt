@@ -8,7 +8,7 @@ use Rattle.std.proofs.lemmas.Nat.{from_le_bytes-to_le_bytes_4}
 use Rattle.nxt_types.specs.Arithmetic.{cut, extend, leaf_size, width_of, word}
 use Rattle.nxt_types.specs.Bytes.{u16_at}
 use Rattle.nxt_types.specs.Shapes.{Shape, Void, Number, Array, Cluster, Mutex, Members, no_members, member, count, leaf_bytes}
-use Rattle.nxt_types.specs.Names.{size, sizes}
+use Rattle.nxt_types.specs.Names.{size}
 use Rattle.nxt_types.specs.declared.kind.Kind.{Kind}
 use Rattle.nxt_types.specs.declared.kind.Kind.TheVariants.{Ubyte, Sbyte, Uword, Sword, Ulong, Slong}
 use Rattle.nxt_types.specs.declared.shape.TocEntry.{TocEntry}
@@ -20,10 +20,11 @@ use Rattle.nxt_model.specs.Reading.{EachReads, HeldList, Memory, MembersRead, Re
 use Rattle.nxt_parts.specs.AssembledParts.{Valued, element_of, is_array, leaves_in, leaves_among, number_bytes, place_of}
 use Rattle.nxt_parts.specs.Defaults.{array_count}
 use Rattle.nxt_parts.specs.Lists.{lists_bytes}
-use Rattle.nxt_asm.proofs.StartValues.{length-number}
+use Rattle.nxt_limits.proofs.Laws.Counts.{entries_length}
+use Rattle.nxt_limits.proofs.Laws.StartValues.{length-number}
 use Rattle.nxt_facts.proofs.Each.{Each, each_apart}
 use Rattle.nxt_sound_layout.proofs.Spots.{spots, spots-append}
-use Rattle.nxt_sound_layout.proofs.Parts.{IsPart, AreParts, IsVariable, AreVariables}
+use Rattle.nxt_sound_layout.proofs.Laws.Parts.{IsPart, AreParts, IsVariable, AreVariables}
 use Rattle.nxt_sound_layout.proofs.Held.{AreHeld, AreItems, IsHeld, IsNumber}
 use Rattle.nxt_sound_layout.proofs.Writes.{window, window_there}
 use Rattle.nxt_sound_layout.proofs.Written.{AllWritten, Written}
@@ -49,20 +50,6 @@ number_there bytes k v at h e =
     h.0 ∙ ap Num (sym h.1 ∙ sym (number_back k (number v)) ∙ ap (λ l. extend k (from_le_bytes (width_of k) l)) (sym e))
 
 -- ---- tables
-
-mutual
-  pub length-entries : (s : Shape) (ps : List ℕ) → length (entries_of s ps) ≡ size s
-  length-entries Void ps = refl
-  length-entries (Number k) ps = refl
-  length-entries (Array n s) ps = let e = length-entries s (places (leaf_sizes s)) in omega (arith, e)
-  length-entries (Cluster ss) ps = let e = length-all ss ps in omega (arith, e)
-  length-entries Mutex ps = refl
-
-  pub length-all : (ss : Members) (ps : List ℕ) → length (all_entries ss ps) ≡ sizes ss
-  length-all no_members ps = refl
-  length-all (member s ss) ps =
-      let rest = drop (length (leaf_sizes s)) ps in
-      length-append (entries_of s ps) (all_entries ss rest) ∙ ap₂ (λ (a b : ℕ). a + b) (length-entries s ps) (length-all ss rest)
 
 got_there : (before : List TocEntry) (e : TocEntry) (behind : List TocEntry) → slice_get (before ++ (e ∷ behind)) (length before) ≡ Some e
 got_there [] e behind = refl
@@ -250,7 +237,7 @@ module _ (m : Memory) where
         let joined : filter is_array (leaves_in s v ++ leaves_among ss vs) ≡ x ++ y = filter-append is_array (leaves_in s v) (leaves_among ss vs) in
         let here : m.entries ≡ before ++ (es ++ (fs ++ behind)) = whole ∙ ap (λ l. before ++ l) (append_assoc es fs behind) in
         let later : m.entries ≡ (before ++ es) ++ (fs ++ behind) = here ∙ sym (append_assoc before es (fs ++ behind)) in
-        let longer : length (before ++ es) ≡ i + size s = length-append before es ∙ ap₂ (λ (a b : ℕ). a + b) long (length-entries s ps) in
+        let longer : length (before ++ es) ≡ i + size s = length-append before es ∙ ap₂ (λ (a b : ℕ). a + b) long (entries_length s ps) in
         let both = arrays_parts m.bytes m.table (row_count m) row at x y (subst (ArraysAre m.bytes m.table (row_count m) row at) joined arrays) in
         let two = each_apart (λ p. spans.end_of p ≤ length m.bytes) (spots ps (leaf_sizes s)) (spots rest (leaves_sizes ss))
         (subst (Each (λ p. spans.end_of p ≤ length m.bytes)) (spots-append ps (leaf_sizes s) (leaves_sizes ss)) ends) in

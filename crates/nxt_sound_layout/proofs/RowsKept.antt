@@ -19,8 +19,8 @@ use Rattle.nxt_layout.specs.Start.{start_footprint}
 use Rattle.nxt_layout.proofs.Laws.OneStart.{one_start}
 use Rattle.nxt_facts.proofs.Each.{each_then}
 use Rattle.nxt_facts.proofs.Sums.{is_it, tally, tally_is}
-use Rattle.nxt_sound_layout.proofs.TableKept.{none_found, shapes, table_kept}
-use Rattle.nxt_sound_layout.proofs.Dataspace.{HasData, length-bytes}
+use Rattle.nxt_sound_layout.proofs.Laws.TableKept.{none_found, shapes, table_kept}
+use Rattle.nxt_sound_layout.proofs.Laws.Dataspace.{HasData, length-bytes}
 use Rattle.nxt_sound_layout.proofs.ListBlocks.{all_sized}
 use Rattle.nxt_sound_layout.proofs.Numbers.{IsNumbered, counted, is_list}
 use Rattle.nxt_sound_layout.proofs.Starts.{arrays, arrays_there, first_list, row_total, rows}

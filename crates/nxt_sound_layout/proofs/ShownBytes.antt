@@ -21,7 +21,7 @@ use Rattle.nxt_model.specs.Nbc.Text.{Source, Variable, Block, Denoted, ANumber, 
 use Rattle.nxt_model.specs.Nbc.Types.{Found, Struct, member_path}
 use Rattle.nxt_model.specs.TextProgram.{all_args}
 use Rattle.nxt_facts.proofs.Each.{Each, each_filter, each_flat, each_from, each_join, each_mapped, each_then}
-use Rattle.nxt_asm.proofs.SoundLists.{each_given, each_numbered, each_weaker}
+use Rattle.nxt_sound.proofs.Laws.Lists.{each_given, each_numbered, each_weaker}
 use Rattle.nxt_sound_layout.proofs.TextValues.{ArgBytes, AreSmallBytes, GivenBytes}
 use Rattle.nxt_sound_layout.proofs.ShownWords.{lines_ok}
 use Rattle.nxt_sound_layout.proofs.ShownForms.{FormOk, LineFormOk, TermOk, forms_ok}

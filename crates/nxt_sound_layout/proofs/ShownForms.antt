@@ -10,7 +10,7 @@ use Rattle.nxt_model.specs.Nbc.Tokens.{Line, Word, Name, Number, Quoted, Sign}
 use Rattle.nxt_model.specs.Nbc.Forms as forms
 use Rattle.nxt_model.specs.Nbc.Forms.{Form, Formed, Given, Open, InData, InStruct, InThread, InSubroutine, Term, Named, Literal, Quote, all_of, by_commas, term_of, terms_of, numbers_of, path_of, is_sign, is_word, is_keyword, brackets, given_by, type_name, member_form, statement_op, with_terms, comparison_word, compared, statement_form, labelled_form, ◌or_else◌, two_names, with_name, one_name, with_term, with_list, include_form, opens_data, top_form, named_struct, declared, data_form, struct_member, struct_form, body_form, thread_form, subroutine_form, form_in, open_after, ends_empty, put_form, bad_at, formed_line, formed_from}
 use Rattle.nxt_facts.proofs.Each.{Each, each_mapped, each_then}
-use Rattle.nxt_sound_layout.proofs.FormPlaces.{Perhaps, one_of, either, two_fine, name_fine, single_fine, term_fine, list_fine}
+use Rattle.nxt_sound.proofs.Laws.Perhaps.{Perhaps, either, list_fine, name_fine, one_of, single_fine, term_fine, two_fine}
 use Rattle.nxt_sound_layout.proofs.TextValues.{AreSmallBytes, GivenBytes}
 use Rattle.nxt_sound_layout.proofs.ShownWords.{LineOk, WordOk}
 

@@ -10,14 +10,14 @@ use Rattle.nxt_model.specs.TextProgram.{Text, first_values, text_of}
 use Rattle.nxt_model.specs.declared.nbc.NbcProgram.{NbcProgram}
 use Rattle.nxt_forms.proofs.Laws.Ascending.{forms_ascend}
 use Rattle.nxt_nbc.specs.Checked.{IsParsed}
-use Rattle.nxt_asm.proofs.SoundKept.{lines_kept}
-use Rattle.nxt_asm.proofs.SoundLines.{each_formed}
-use Rattle.nxt_asm.proofs.SoundSource.{variables_hold}
-use Rattle.nxt_asm.proofs.SoundStarts.{Holds}
+use Rattle.nxt_sound.proofs.Laws.Kept.{lines_kept}
+use Rattle.nxt_sound.proofs.Laws.Lines.{each_formed}
+use Rattle.nxt_sound.proofs.Laws.Source.{variables_hold}
+use Rattle.nxt_sound.proofs.Laws.Starts.{Holds}
 use Rattle.nxt_facts.proofs.Each.{Each, each_both}
 use Rattle.nxt_sound_layout.proofs.Held.{AreHeld}
-use Rattle.nxt_sound_layout.proofs.Parts.{IsVariable}
-use Rattle.nxt_sound_layout.proofs.TableAccepted.{declared_of, nothing_told}
+use Rattle.nxt_sound_layout.proofs.Laws.Parts.{IsVariable}
+use Rattle.nxt_sound_layout.proofs.Laws.TableAccepted.{declared_of, nothing_told}
 use Rattle.nxt_sound_layout.proofs.TextValues.{GivenBytes, IsGiven, source_held}
 use Rattle.nxt_sound_layout.proofs.ShownBytes.{args_shown, starts_shown}
 
@@ -42,7 +42,7 @@ module _ (text : List ℕ) (p : NbcProgram) (parsed : IsParsed text p) where
       each_both (λ (v : Variable). IsVariable v.shape × (start_fits v.shape v.given ≡ true))
       (λ (v : Variable). Holds v.shape v.given × GivenBytes v.given) IsGiven
       (λ v a b. let one : IsGiven v = record { range = a.1; holds = b.0; bytes = b.1 } in one) src.vars
-      (declared_of text p parsed)
+      (declared_of text (text_of p) parsed)
       (each_both (λ (v : Variable). Holds v.shape v.given) (λ (v : Variable). GivenBytes v.given) (λ (v : Variable). Holds v.shape v.given × GivenBytes v.given)
       (λ v a b. (a, b)) src.vars hold (starts_shown text ts parsed.tokens.1))
 

@@ -13,11 +13,11 @@ use Rattle.nxt_facts.proofs.Each.{Each, each_then}
 use Rattle.nxt_facts.proofs.Pairs.{all_pairs}
 use Rattle.nxt_facts.proofs.Sums.{total}
 use Rattle.nxt_sound_layout.proofs.Spots.{spots, spots_end}
-use Rattle.nxt_sound_layout.proofs.Parts.{count-bares, variables_filled}
+use Rattle.nxt_sound_layout.proofs.Laws.Parts.{count-bares, variables_filled}
 use Rattle.nxt_sound_layout.proofs.Placed.{all_sizes_total}
-use Rattle.nxt_sound_layout.proofs.TableKept.{outlines}
+use Rattle.nxt_sound_layout.proofs.Laws.TableKept.{outlines}
 use Rattle.nxt_sound_layout.proofs.Writes.{pair_filter}
-use Rattle.nxt_sound_layout.proofs.Dataspace.{HasData, all_written, arrays_among, bytes, dataspace_is, length-bytes, length-static, static}
+use Rattle.nxt_sound_layout.proofs.Laws.Dataspace.{HasData, all_written, arrays_among, bytes, dataspace_is, length-bytes, length-static, static}
 use Rattle.nxt_sound_layout.proofs.RowsRead.{ArraysAre}
 use Rattle.nxt_sound_layout.proofs.TableRead.{HasRows, has_rows}
 use Rattle.nxt_sound_layout.proofs.ListBlocks.{IsSized, all_sized, blocks_apart, rows_differ, table_apart}

@@ -13,9 +13,9 @@ use Rattle.nxt_model.specs.Nbc.NbcRules.{TextFault, Syntax, WrongKind, OutOfRang
 use Rattle.nxt_model.specs.Nbc.Text.{Source, Variable, header_at, include_line, source_of, types_of, variable_of}
 use Rattle.nxt_model.specs.Nbc.Types.{Struct, StructMember, arrays_of, depth_of, one_of, or_number, plain_type, plain_types, shape_of, shape_of_struct, struct_named, types_at, types_from, with_member}
 use Rattle.nxt_facts.proofs.Each.{Each, each_filter, each_mapped, each_passes, each_then}
-use Rattle.nxt_asm.proofs.SoundKept.{kept_lines}
-use Rattle.nxt_asm.proofs.SoundLists.{each_found, each_given, each_push, each_weaker}
-use Rattle.nxt_sound_layout.proofs.Parts.{IsPart, AreParts, IsVariable}
+use Rattle.nxt_sound.proofs.Laws.Kept.{kept_lines}
+use Rattle.nxt_sound.proofs.Laws.Lists.{each_found, each_given, each_push, each_weaker}
+use Rattle.nxt_sound_layout.proofs.Laws.Parts.{IsPart, AreParts, IsVariable}
 use Rattle.nxt_sound_layout.proofs.Closed.{closes}
 
 -- ---- structs

@@ -23,7 +23,7 @@ use Rattle.nxt_model.specs.declared.nbc.NbcArg.{NbcArg}
 use Rattle.nxt_model.specs.declared.nbc.NbcArg.TheVariants as args
 use Rattle.nxt_model.proofs.Laws.Values.{items-values}
 use Rattle.nxt_facts.proofs.Each.{Each, each_filter, each_flat, each_from, each_join, each_then}
-use Rattle.nxt_asm.proofs.SoundStarts.{Holds}
+use Rattle.nxt_sound.proofs.Laws.Starts.{Holds}
 use Rattle.nxt_sound_layout.proofs.Held.{AreHeld, AreItems, IsHeld, IsNumber, zero_held}
 
 -- ---- bytes

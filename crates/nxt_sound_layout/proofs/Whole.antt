@@ -8,8 +8,8 @@ use Rattle.nxt_types.proofs.Laws.Shapes.{spelling_front}
 use Rattle.nxt_table.specs.Leaves.{sites_in, voids_stand_alone}
 use Rattle.nxt_table.specs.TableRules.{IsOpen}
 use Rattle.nxt_facts.proofs.Each.{each_then, passes_each}
-use Rattle.nxt_sound_layout.proofs.Spelled.{spelling-bare}
-use Rattle.nxt_sound_layout.proofs.Parts.{IsVariable, AreVariables, IsFine, variable_filled, variable_sites}
+use Rattle.nxt_sound_layout.proofs.Laws.Spelled.{spelling-bare}
+use Rattle.nxt_sound_layout.proofs.Laws.Parts.{IsVariable, AreVariables, IsFine, variable_filled, variable_sites}
 
 -- ---- the next variable
 

@@ -9,7 +9,7 @@ use Rattle.nxt_model.specs.Assembled.{leaf_sizes}
 use Rattle.nxt_model.specs.Values.{Value, elements}
 use Rattle.nxt_parts.specs.AssembledParts.{defaults_from, leaves_in, leaves_among, number_bytes}
 use Rattle.nxt_parts.specs.Defaults.{array_count}
-use Rattle.nxt_asm.proofs.StartValues.{length-number}
+use Rattle.nxt_limits.proofs.Laws.StartValues.{length-number}
 use Rattle.nxt_table.specs.Leaves.{Leaf, width, is_mutex}
 use Rattle.nxt_table.specs.Dataspace.{default_place, default_end}
 use Rattle.nxt_table.proofs.Laws.Leaves.{Rising}

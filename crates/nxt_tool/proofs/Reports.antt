@@ -10,3 +10,9 @@ pub mod Pieces
 pub mod Runs
 -- What a script's next row says of the rows to come.
 pub mod Scripts
+-- What is due to a text that is assembled.
+pub mod Images
+-- What is due to a text that is run.
+pub mod TextRuns
+-- What is due to a number.
+pub mod Generated

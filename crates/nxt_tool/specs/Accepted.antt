@@ -7,7 +7,7 @@ use Rattle.nxt_rxe.specs.Files.{IsFile, HasCounts}
 use Rattle.nxt_rxe.specs.FileRules as file_rules
 use Rattle.nxt_layout.specs.LayoutRules as layout_rules
 use Rattle.nxt_layout.specs.Layouts.{FileLayout, IsLayout}
-use Rattle.nxt_layout.specs.Start.{HasShapes, StartsAs, rows_at_start, start_footprint}
+use Rattle.nxt_layout.specs.Start.{HasShapes, StartsAs, image_of, start_footprint}
 use Rattle.nxt_code.specs.CodeRules as code_rules
 use Rattle.nxt_code.specs.Decoding.{IsDecoded}
 use Rattle.nxt_code.specs.declared.code.Code.{Code as AcceptedCode}
@@ -16,7 +16,7 @@ use Rattle.nxt_model.specs.Image.{Image}
 use Rattle.nxt_model.specs.Values.{Value}
 use Rattle.nxt_model.specs.LineText.{line_of}
 use Rattle.nxt_tool.specs.declared.fault.Refusal.{Refusal}
-use Rattle.nxt_tool.specs.declared.fault.Refusal.TheVariants.{Sections, Layout, Code}
+use Rattle.nxt_tool.specs.declared.fault.Refusal.TheVariants.{Sections, Layout, Code, Text, Assembler}
 use Rattle.nxt_tool.specs.declared.fault.AcceptFault.{AcceptFault}
 use Rattle.nxt_tool.specs.declared.fault.AcceptFault.TheVariants.{Refused, NoMemory}
 use Rattle.nxt_tool.specs.declared.words.Description.{Description}
@@ -33,20 +33,6 @@ pub record BreaksNone (p : Parts) (ss : Members) : Type 0 where
   pub layout : IsAccepted (layout_rules.Broken p)
   pub shapes : HasShapes p ss
   pub code : IsAccepted (code_rules.Broken (code_in p ss))
-
--- the image of a file's parts, whose variables have these shapes and start with these values
-abbrev pub image_of : Parts → Members → Value → Image
-image_of p ss vars =
-    record {
-      entries = p.toc;
-      shapes = ss;
-      values = vars;
-      rows = rows_at_start p ss vars;
-      static_size = p.header.static_size;
-      clumps = p.clumps;
-      dependents = p.dependents;
-      words = p.code;
-    }
 
 -- the parts break no rule, and this is the image of their program
 pub record IsRun (p : Parts) (image : Image) : Type 0 where
@@ -91,6 +77,8 @@ IsListing bytes text = (p : Parts) × IsFile bytes p × (ss : Members) × Breaks
 -- the first broken rule of the table and the data, or else of the clumps and the code
 abbrev pub RefusesParts : Parts → Refusal → Type 0
 RefusesParts p (Sections f) = ⊥
+RefusesParts p (Text f) = ⊥
+RefusesParts p (Assembler f) = ⊥
 RefusesParts p (Layout f) = IsRefusal (layout_rules.Broken p) layout_rules.rank f
 RefusesParts p (Code f) =
     IsAccepted (layout_rules.Broken p) × (ss : Members) × HasShapes p ss × IsRefusal (code_rules.Broken (code_in p ss)) code_rules.rank f

@@ -4,12 +4,17 @@ use Rattle.std.specs.Io.KnownBytes.{Appends}
 use Rattle.nxt_edge.specs.Edge.{AppendsFront, Rose}
 use Rattle.nxt_model.specs.Image.{Image, program_of}
 use Rattle.nxt_model.specs.Program.{start}
-use Rattle.nxt_model.specs.Report.{IsReport, setting}
+use Rattle.nxt_model.specs.Report.{IsReport, setting, text_setting}
+use Rattle.nxt_model.specs.TextProgram.{Text}
+use Rattle.nxt_types.specs.Refusals.{IsAccepted}
+use Rattle.nxt_nbc.specs.Checked.{Spells}
+use Rattle.nxt_limits.specs.AsmRules as assembler_rules
 use Rattle.nxt_tool.specs.declared.words.Command.{Command}
-use Rattle.nxt_tool.specs.declared.words.Command.TheVariants.{RunRxe, Describe}
+use Rattle.nxt_tool.specs.declared.words.Command.TheVariants.{RunRxe, RunNbc, Assemble, Describe, Generate}
 use Rattle.nxt_tool.specs.declared.words.Description.{Description}
-use Rattle.nxt_tool.specs.Words.{command_of}
+use Rattle.nxt_tool.specs.Words.{command_of, program_word}
 use Rattle.nxt_tool.specs.Accepted.{IsAcceptedAs, IsRefused, IsDescribed, refused_line}
+use Rattle.nxt_tool.specs.Assembling.{IsAssembled, IsGenerated, IsRefusedText}
 use Rattle.nxt_tool.specs.Refused.{told}
 use Rattle.nxt_tool.specs.declared.fault.Refusal.{Refusal}
 use Rattle.nxt_tool.specs.Statuses.{status_of}
@@ -36,6 +41,13 @@ abbrev pub RunOn : Image → List ℕ → Answer → Type 0
 RunOn image script a =
     (text : List ℕ)
     × IsReport (setting image 0) (rows script).rows (rows script).end text
+    × (a ≡ answer (status_of (rows script).end) [] text)
+
+-- and on what a text spells, by the meaning of its own statements
+abbrev pub RunOnText : Text → List ℕ → Answer → Type 0
+RunOnText t script a =
+    (text : List ℕ)
+    × IsReport (text_setting t 0) (rows script).rows (rows script).end text
     × (a ≡ answer (status_of (rows script).end) [] text)
 
 -- ended by neither a fault nor want of memory
@@ -104,6 +116,15 @@ Within program go a = MatchBool (nat_lt most_program_bytes (length program)) (a 
 abbrev pub Run : List ℕ → List ℕ → Answer → Type 0
 Run program script a = Within program (λ bytes. OfFile bytes (λ image. RunOn image script)) a
 
+-- the answer to a text and a script: the line of its first broken rule, or the report on what it spells
+abbrev pub OnText : List ℕ → List ℕ → Answer → Type 0
+OnText text script a =
+    ((r : Refusal) × IsRefusedText text r × (a ≡ refused_answer r))
+    ⊎ ((t : Text) × Spells text t × IsAccepted (assembler_rules.Broken t) × RunOnText t script a)
+
+abbrev pub RunText : List ℕ → List ℕ → Answer → Type 0
+RunText program script a = Within program (λ text. OnText text script) a
+
 -- the answer to a program that is described: the line of its first broken rule, or what is told of it
 abbrev pub DescribedFile : Description → List ℕ → Answer → Type 0
 DescribedFile d bytes a =
@@ -113,10 +134,29 @@ DescribedFile d bytes a =
 abbrev pub Describes : Description → List ℕ → Answer → Type 0
 Describes d program a = Within program (DescribedFile d) a
 
+-- the answer to a text that is assembled: the line of its first broken rule, or its image and what is told of it
+abbrev pub assembled_answer : List ℕ → List ℕ → Answer
+assembled_answer file line = answer statuses.Done file line
+
+abbrev pub AssembledText : List ℕ → Answer → Type 0
+AssembledText text a =
+    ((r : Refusal) × IsRefusedText text r × (a ≡ refused_answer r))
+    ⊎ ((file line : List ℕ) × IsAssembled text file line × (a ≡ assembled_answer file line))
+
+abbrev pub Assembles : List ℕ → Answer → Type 0
+Assembles program a = Within program AssembledText a
+
+-- the answer to a number: what is told of the run of the program that it gives
+abbrev pub Generated : ℕ → Answer → Type 0
+Generated n a = (text : List ℕ) × IsGenerated n text × (a ≡ described_answer text)
+
 abbrev pub DueTo : Option Command → List ℕ → List ℕ → Answer → Type 0
 DueTo None program script a = a ≡ answer statuses.Words [] []
 DueTo (Some RunRxe) program script a = Run program script a
+DueTo (Some RunNbc) program script a = RunText program script a
+DueTo (Some Assemble) program script a = Assembles program a
 DueTo (Some (Describe d)) program script a = Describes d program a
+DueTo (Some (Generate n)) program script a = Generated n a
 
 abbrev pub Due : List (List ℕ) → List ℕ → List ℕ → Answer → Type 0
 Due words program script a = DueTo (command_of words) program script a
@@ -124,28 +164,58 @@ Due words program script a = DueTo (command_of words) program script a
 -- ---- what is used
 
 abbrev pub UsesProgram : List (List ℕ) → Type 0
-UsesProgram words = IsSome (command_of words)
+UsesProgram words = IsSome (program_word (command_of words))
 
--- a program that is neither too large nor refused, so that the script is read
-pub record ReadsScript (program : List ℕ) : Type 0 where
+-- an image that is neither too large nor refused
+pub record AcceptsImage (program : List ℕ) : Type 0 where
   pub within : length program ≤ 262144
   pub image : Image
   pub accepted : IsAcceptedAs program image
 
+-- and such a text
+pub record AcceptsText (program : List ℕ) : Type 0 where
+  pub within : length program ≤ 262144
+  pub text : Text
+  pub spelled : Spells program text
+  pub kept : IsAccepted (assembler_rules.Broken text)
+
+-- behind them the script is read
+abbrev pub ReadsScript : Command → List ℕ → Type 0
+ReadsScript RunRxe program = AcceptsImage program
+ReadsScript RunNbc program = AcceptsText program
+ReadsScript Assemble program = ⊥
+ReadsScript (Describe d) program = ⊥
+ReadsScript (Generate n) program = ⊥
+
 abbrev pub UsesScript : List (List ℕ) → List ℕ → Type 0
-UsesScript words program = (command_of words ≡ Some RunRxe) × ReadsScript program
+UsesScript words program = (c : Command) × (command_of words ≡ Some c) × ReadsScript c program
 
 -- the program's bytes, where they are told, are those of a program behind which the script is read
-abbrev pub Accepts : Option (List ℕ) → Type 0
-Accepts program = IfSome program ReadsScript
+abbrev pub Accepts : Command → Option (List ℕ) → Type 0
+Accepts c program = IfSome program (ReadsScript c)
 
 abbrev pub MayReadScript : List (List ℕ) → Option (List ℕ) → Type 0
-MayReadScript words program = (command_of words ≡ Some RunRxe) × Accepts program
+MayReadScript words program = (c : Command) × (command_of words ≡ Some c) × Accepts c program
 
--- each sink got its text whole, or a front of it
+-- a text that is neither too large nor refused, so that its image is written
+pub record WritesImage (program : List ℕ) : Type 0 where
+  pub within : length program ≤ 262144
+  pub file : List ℕ
+  pub line : List ℕ
+  pub assembled : IsAssembled program file line
+
+-- the text's bytes, where they are told, are those of a text whose image is written
+abbrev pub Images : Option (List ℕ) → Type 0
+Images program = IfSome program WritesImage
+
+abbrev pub MayWriteImage : List (List ℕ) → Option (List ℕ) → Type 0
+MayWriteImage words program = (command_of words ≡ Some Assemble) × Images program
+
+-- each sink got its text whole, or a front of it, and the report nothing before the image is whole
 pub record Answers (s : Status) (d : Answer) (image image' report report' : Option (List ℕ)) : Type 0 where
   pub report_text : Meets s d report report'
   pub image_text : Meets s (record d { report = d.image }) image image'
+  pub in_turn : Appends report report' [] ⊎ Appends image image' d.image
 
 -- no fault came: each count that may have risen stayed
 abbrev pub IsQuiet : ℕ → ℕ → Type 0

@@ -6,7 +6,7 @@ ghost use Rattle.nxt_rxe.specs.declared.parts.Parts.{Parts as FileParts};
 ghost use Rattle.nxt_rxe.specs.Files.{HasCounts, Fits, IsFile};
 ghost use Rattle.nxt_model.specs.Image.{program_of};
 ghost use Rattle.nxt_model.specs.Program.{start};
-ghost use Rattle.nxt_tool.specs.Accepted.{IsJudged, IsSoundFile, IsListing, IsDescribed, IsAcceptedAs, HasCause, PartsCause, accepted_line, refused_line};
+ghost use Rattle.nxt_tool.specs.Accepted.{IsJudged, IsRun, IsSoundFile, IsListing, IsDescribed, IsAcceptedAs, HasCause, PartsCause, accepted_line, refused_line};
 ghost use Rattle.nxt_tool.specs.Refused.{told};
 
 use crate::fault::{AcceptFault, Refusal};
@@ -26,7 +26,18 @@ pub fn accept(alloc: Global, bytes: &[u8]) -> Result<Machine, AcceptFault>
     ensures start { IfOk result (λ m. m.state ≡ start (program_of m.image)) }
     ensures accepted { MatchResult result (λ m. IsAcceptedAs bytes.now m.image) (HasCause bytes.now) }
 {
-    let (layout, code) = judged(alloc, bytes)?;
+    let parts = read_rxe(alloc, bytes)?;
+    machine_of(alloc, parts)
+}
+
+/// The machine of the program of parts at its start, or the first rule that they break.
+pub fn machine_of(alloc: Global, parts: Parts) -> Result<Machine, AcceptFault>
+    requires counts { HasCounts parts }
+    requires fits { Fits parts }
+    ensures start { IfOk result (λ m. m.state ≡ start (program_of m.image)) }
+    ensures accepted { MatchResult result (λ m. IsRun parts m.image) (PartsCause parts) }
+{
+    let (layout, code) = judge(alloc, parts)?;
     Ok(Machine::new(alloc, layout, code)?)
 }
 

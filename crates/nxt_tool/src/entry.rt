@@ -1,19 +1,22 @@
 ghost use Rattle.std.specs.Prelude.{◌≡◌, ◌⊎◌, ◌↔◌, ℕ, ◌≤◌, List, [], Option, Some, None};
 ghost use Rattle.nxt_edge.specs.Edge.{Rose, AreBytes};
-ghost use Rattle.nxt_tool.specs.Due.{Answer, Meets, read_status, fault_status, answer_to, refused_answer, described_answer, Run, Describes, Due, UsesProgram, ReadsScript, UsesScript, Accepts, MayReadScript, Answers, IsQuiet, NotRefused};
+ghost use Rattle.nxt_tool.specs.Due.{Answer, Meets, read_status, fault_status, answer_to, assembled_answer, refused_answer, described_answer, Run, RunText, Describes, Assembles, Generated, Due, UsesProgram, ReadsScript, UsesScript, Accepts, Images, MayReadScript, MayWriteImage, Answers, IsQuiet, NotRefused};
 ghost use Rattle.nxt_model.specs.Image.{program_of};
 ghost use Rattle.nxt_model.specs.Program.{start};
 ghost use Rattle.nxt_tool.specs.Words.{command_of, texts_of};
-ghost use Rattle.nxt_tool.specs.declared.words.Command.TheVariants.{RunRxe};
+ghost use Rattle.nxt_tool.specs.declared.words.Command.TheVariants.{RunRxe, RunNbc};
 
 use crate::accepting::{accept, describe, refusal_line};
+use crate::assembling::{ImageFile, assemble_text, machine_of_text};
 use crate::fault::{AcceptFault, Refusal};
+use crate::generating::generate;
 use crate::running::run_script;
 use crate::status::Status;
 use crate::words::{Command, Description, form_of};
 use crate::writing::{Fault, put};
 use nxt_edge::{ReadAllFault, Sink, Source, read_all};
 use nxt_machine::Machine;
+use nxt_types::NoMemory;
 use std::alloc::Global;
 
 const MOST_PROGRAM: usize = 262_144;
@@ -76,17 +79,17 @@ fn refuse<R: Sink>(alloc: Global, refusal: Refusal, report: &mut R) -> Status
     }
 }
 
-// Runs a script over a program file.
+// Runs a script over an image.
 fn run<P: Source, Q: Source, R: Sink>(
     alloc: Global,
     program: &mut P,
     script: &mut Q,
     report: &mut R,
 ) -> Status
-    ensures told { (b s : List ℕ) → AreBytes b → P.left program.old ≡ Some b → (ReadsScript b → Q.left script.old ≡ Some s) → (a : Answer) × Run b s a × Meets result a (R.written report.old) (R.written report.new) }
-    ensures read { result ≡ Status.ReadFault → Rose (P.faults program.old) (P.faults program.new) ⊎ (Accepts (P.left program.old) × Rose (Q.faults script.old) (Q.faults script.new)) }
+    ensures told { (b s : List ℕ) → AreBytes b → P.left program.old ≡ Some b → (ReadsScript RunRxe b → Q.left script.old ≡ Some s) → (a : Answer) × Run b s a × Meets result a (R.written report.old) (R.written report.new) }
+    ensures read { result ≡ Status.ReadFault → Rose (P.faults program.old) (P.faults program.new) ⊎ (Accepts RunRxe (P.left program.old) × Rose (Q.faults script.old) (Q.faults script.new)) }
     ensures write { result ≡ Status.WriteFault → Rose (R.faults report.old) (R.faults report.new) }
-    ensures unread { (Accepts (P.left program.old) → ⊥) → script.new ≡ script.old }
+    ensures unread { (Accepts RunRxe (P.left program.old) → ⊥) → script.new ≡ script.old }
     ensures words { result ≡ Status.Words → ⊥ }
     ensures later { (P.faults program.old ≤ P.faults program.new) × (Q.faults script.old ≤ Q.faults script.new) × (R.faults report.old ≤ R.faults report.new) }
 {
@@ -95,6 +98,31 @@ fn run<P: Source, Q: Source, R: Sink>(
         Err(fault) => return of_read(fault),
     };
     match accept(alloc, bytes.as_slice()) {
+        Ok(machine) => run_program(alloc, machine, script, report),
+        Err(AcceptFault::NoMemory) => Status::NoMemory,
+        Err(AcceptFault::Refused(refusal)) => refuse(alloc, refusal, report),
+    }
+}
+
+// Runs a script over a text.
+fn run_text<P: Source, Q: Source, R: Sink>(
+    alloc: Global,
+    program: &mut P,
+    script: &mut Q,
+    report: &mut R,
+) -> Status
+    ensures told { (b s : List ℕ) → AreBytes b → P.left program.old ≡ Some b → (ReadsScript RunNbc b → Q.left script.old ≡ Some s) → (a : Answer) × RunText b s a × Meets result a (R.written report.old) (R.written report.new) }
+    ensures read { result ≡ Status.ReadFault → Rose (P.faults program.old) (P.faults program.new) ⊎ (Accepts RunNbc (P.left program.old) × Rose (Q.faults script.old) (Q.faults script.new)) }
+    ensures write { result ≡ Status.WriteFault → Rose (R.faults report.old) (R.faults report.new) }
+    ensures unread { (Accepts RunNbc (P.left program.old) → ⊥) → script.new ≡ script.old }
+    ensures words { result ≡ Status.Words → ⊥ }
+    ensures later { (P.faults program.old ≤ P.faults program.new) × (Q.faults script.old ≤ Q.faults script.new) × (R.faults report.old ≤ R.faults report.new) }
+{
+    let bytes = match read_all(alloc, program, MOST_PROGRAM) {
+        Ok(bytes) => bytes,
+        Err(fault) => return of_read(fault),
+    };
+    match machine_of_text(alloc, bytes.as_slice()) {
         Ok(machine) => run_program(alloc, machine, script, report),
         Err(AcceptFault::NoMemory) => Status::NoMemory,
         Err(AcceptFault::Refused(refusal)) => refuse(alloc, refusal, report),
@@ -138,6 +166,57 @@ fn describe_file<P: Source, R: Sink>(
     }
 }
 
+// Writes an image, and then what is told of it.
+fn write_image<I: Sink, R: Sink>(made: &ImageFile, image: &mut I, report: &mut R) -> Status
+    ensures told { Answers result (assembled_answer made.now.file made.now.line) (I.written image.old) (I.written image.new) (R.written report.old) (R.written report.new) }
+    ensures write { result ≡ Status.WriteFault → Rose (R.faults report.old) (R.faults report.new) ⊎ Rose (I.faults image.old) (I.faults image.new) }
+    ensures later { (I.faults image.old ≤ I.faults image.new) × (R.faults report.old ≤ R.faults report.new) }
+    ensures only { (result ≡ Status.ReadFault → ⊥) × (result ≡ Status.Words → ⊥) }
+{
+    match put(image, made.file.as_slice()) {
+        Ok(()) => tell(made.line.as_slice(), report),
+        Err(fault) => of_fault(fault),
+    }
+}
+
+// Assembles a text to an image.
+fn assemble_file<P: Source, I: Sink, R: Sink>(
+    alloc: Global,
+    program: &mut P,
+    image: &mut I,
+    report: &mut R,
+) -> Status
+    ensures told { (b : List ℕ) → AreBytes b → P.left program.old ≡ Some b → (a : Answer) × Assembles b a × Answers result a (I.written image.old) (I.written image.new) (R.written report.old) (R.written report.new) }
+    ensures read { result ≡ Status.ReadFault → Rose (P.faults program.old) (P.faults program.new) }
+    ensures write { result ≡ Status.WriteFault → Rose (R.faults report.old) (R.faults report.new) ⊎ (Images (P.left program.old) × Rose (I.faults image.old) (I.faults image.new)) }
+    ensures unwritten { (Images (P.left program.old) → ⊥) → image.new ≡ image.old }
+    ensures words { result ≡ Status.Words → ⊥ }
+    ensures later { (P.faults program.old ≤ P.faults program.new) × (I.faults image.old ≤ I.faults image.new) × (R.faults report.old ≤ R.faults report.new) }
+{
+    let bytes = match read_all(alloc, program, MOST_PROGRAM) {
+        Ok(bytes) => bytes,
+        Err(fault) => return of_read(fault),
+    };
+    match assemble_text(alloc, bytes.as_slice()) {
+        Ok(made) => write_image(&made, image, report),
+        Err(AcceptFault::NoMemory) => Status::NoMemory,
+        Err(AcceptFault::Refused(refusal)) => refuse(alloc, refusal, report),
+    }
+}
+
+// Runs a generated program, and tells of it.
+fn tell_generated<R: Sink>(alloc: Global, number: u32, report: &mut R) -> Status
+    ensures told { (a : Answer) × Generated number a × Meets result a (R.written report.old) (R.written report.new) }
+    ensures write { result ≡ Status.WriteFault → Rose (R.faults report.old) (R.faults report.new) }
+    ensures report { R.faults report.old ≤ R.faults report.new }
+    ensures only { (result ≡ Status.ReadFault → ⊥) × (result ≡ Status.Words → ⊥) }
+{
+    match generate(alloc, number) {
+        Ok(text) => tell(text.as_slice(), report),
+        Err(NoMemory) => Status::NoMemory,
+    }
+}
+
 fn answer<P: Source, Q: Source, I: Sink, R: Sink>(
     alloc: Global,
     words: &[Vec<u8>],
@@ -151,17 +230,21 @@ fn answer<P: Source, Q: Source, I: Sink, R: Sink>(
         → (a : Answer) × Due (texts_of words.now) b s a × Answers result a (I.written image.old) (I.written image.new) (R.written report.old) (R.written report.new) }
     ensures words { (result ≡ Status.Words) ↔ (command_of (texts_of words.now) ≡ None) }
     ensures read { result ≡ Status.ReadFault → Rose (P.faults program.old) (P.faults program.new) ⊎ (MayReadScript (texts_of words.now) (P.left program.old) × Rose (Q.faults script.old) (Q.faults script.new)) }
-    ensures write { result ≡ Status.WriteFault → Rose (R.faults report.old) (R.faults report.new) }
+    ensures write { result ≡ Status.WriteFault → Rose (R.faults report.old) (R.faults report.new) ⊎ (MayWriteImage (texts_of words.now) (P.left program.old) × Rose (I.faults image.old) (I.faults image.new)) }
     ensures no_form { command_of (texts_of words.now) ≡ None → (program.new ≡ program.old) × (report.new ≡ report.old) }
+    ensures program { (UsesProgram (texts_of words.now) → ⊥) → program.new ≡ program.old }
     ensures script { (MayReadScript (texts_of words.now) (P.left program.old) → ⊥) → script.new ≡ script.old }
-    ensures image { image.new ≡ image.old }
-    ensures later { (P.faults program.old ≤ P.faults program.new) × (Q.faults script.old ≤ Q.faults script.new) × (R.faults report.old ≤ R.faults report.new) }
+    ensures image { (MayWriteImage (texts_of words.now) (P.left program.old) → ⊥) → image.new ≡ image.old }
+    ensures later { (P.faults program.old ≤ P.faults program.new) × (Q.faults script.old ≤ Q.faults script.new) × (I.faults image.old ≤ I.faults image.new) × (R.faults report.old ≤ R.faults report.new) }
 {
     match form_of(words) {
         Some(Command::RunRxe) => run(alloc, program, script, report),
+        Some(Command::RunNbc) => run_text(alloc, program, script, report),
+        Some(Command::Assemble) => assemble_file(alloc, program, image, report),
         Some(Command::Describe(description)) => {
             describe_file(alloc, description, program, report)
         }
+        Some(Command::Generate(number)) => tell_generated(alloc, number, report),
         None => Status::Words,
     }
 }
@@ -169,9 +252,14 @@ fn answer<P: Source, Q: Source, I: Sink, R: Sink>(
 /// Does what the words say, and answers how it ended. `words` are those of the command without the program's own name.
 ///
 /// `run rxe FILE SCRIPT` runs the rows of the script on the image that the program holds, and writes the report.
+/// `run nbc FILE SCRIPT` does the same on the text that the program holds, or writes the first rule that the text breaks.
+/// `asm FILE IMAGE` writes the image of the text that the program holds to `image`, and then the bytes of its file and of the
+/// pool at the start, or the first rule that the text breaks.
 /// `check FILE` writes whether the program's image is accepted, and with what footprint, or the first rule that it breaks.
 /// `list FILE` writes the image as text, line by line, or the first rule that it breaks.
-/// Other words have no form: nothing is read or written. `image` is for commands that write a file.
+/// `gen NUMBER` makes a program and a script from the number, runs them, and writes how many lines of motors there were, the
+/// sum of their powers, and how the program stopped.
+/// Other words have no form: nothing is read or written.
 pub fn nxt<P: Source, Q: Source, I: Sink, R: Sink>(
     alloc: Global,
     words: &[Vec<u8>],
@@ -181,7 +269,8 @@ pub fn nxt<P: Source, Q: Source, I: Sink, R: Sink>(
     report: &mut R,
 ) -> Status
     // The headline. Let the sources that are used tell their bytes. With a status that is no fault, it and the texts
-    // appended are the due ones; after a fault or want of memory each text appended is a prefix of a due one.
+    // appended are the due ones; after a fault or want of memory each text appended is a prefix of a due one. Nothing is
+    // reported of an image before it is whole.
     ensures told { (b s : List ℕ) → AreBytes b → (UsesProgram (texts_of words.now) → P.left program.old ≡ Some b)
         → (UsesScript (texts_of words.now) b → Q.left script.old ≡ Some s)
         → (a : Answer) × Due (texts_of words.now) b s a × Answers result a (I.written image.old) (I.written image.new) (R.written report.old) (R.written report.new) }
@@ -189,7 +278,7 @@ pub fn nxt<P: Source, Q: Source, I: Sink, R: Sink>(
     // Where no fault came, the due status is given, or there was no memory.
     ensures complete { (b s : List ℕ) → AreBytes b → (UsesProgram (texts_of words.now) → P.left program.old ≡ Some b)
         → (UsesScript (texts_of words.now) b → Q.left script.old ≡ Some s)
-        → IsQuiet (P.faults program.old) (P.faults program.new) → IsQuiet (Q.faults script.old) (Q.faults script.new) → IsQuiet (R.faults report.old) (R.faults report.new)
+        → IsQuiet (P.faults program.old) (P.faults program.new) → IsQuiet (Q.faults script.old) (Q.faults script.new) → IsQuiet (I.faults image.old) (I.faults image.new) → IsQuiet (R.faults report.old) (R.faults report.new)
         → ((a : Answer) × Due (texts_of words.now) b s a × (result ≡ a.status)) ⊎ (result ≡ Status.NoMemory) }
 
     // The words alone decide whether they have a form.
@@ -198,13 +287,15 @@ pub fn nxt<P: Source, Q: Source, I: Sink, R: Sink>(
     // A fault is told only where a used object failed in this call.
     ensures read_fault { result ≡ Status.ReadFault → Rose (P.faults program.old) (P.faults program.new)
         ⊎ (MayReadScript (texts_of words.now) (P.left program.old) × Rose (Q.faults script.old) (Q.faults script.new)) }
-    ensures write_fault { result ≡ Status.WriteFault → Rose (R.faults report.old) (R.faults report.new) }
-    ensures later { (P.faults program.old ≤ P.faults program.new) × (Q.faults script.old ≤ Q.faults script.new) × (R.faults report.old ≤ R.faults report.new) }
+    ensures write_fault { result ≡ Status.WriteFault → Rose (R.faults report.old) (R.faults report.new)
+        ⊎ (MayWriteImage (texts_of words.now) (P.left program.old) × Rose (I.faults image.old) (I.faults image.new)) }
+    ensures later { (P.faults program.old ≤ P.faults program.new) × (Q.faults script.old ≤ Q.faults script.new) × (I.faults image.old ≤ I.faults image.new) × (R.faults report.old ≤ R.faults report.new) }
 
     // What isn't used is left as it was.
     ensures no_form { command_of (texts_of words.now) ≡ None → (program.new ≡ program.old) × (report.new ≡ report.old) }
+    ensures program { (UsesProgram (texts_of words.now) → ⊥) → program.new ≡ program.old }
     ensures script { (MayReadScript (texts_of words.now) (P.left program.old) → ⊥) → script.new ≡ script.old }
-    ensures image { image.new ≡ image.old }
+    ensures image { (MayWriteImage (texts_of words.now) (P.left program.old) → ⊥) → image.new ≡ image.old }
 {
     answer(alloc, words, program, script, image, report)
 }

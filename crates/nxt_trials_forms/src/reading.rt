@@ -1,11 +1,8 @@
 // Texts that are cut into tokens.
 
-use nxt_forms::{NbcFault, Token, Tokens, lex};
+use nxt_forms::{LONGEST_TEXT, NbcFault, Token, Tokens, lex};
 use std::alloc::Global;
 use std::test::Fail;
-
-/// The most bytes that a text may have.
-const LONGEST_TEXT: usize = 16_777_216;
 
 /// The tokens of a text. Of a longer one only the front is looked at.
 pub(crate) fn tokens_of(alloc: Global, text: &[u8]) -> Result<Tokens, NbcFault> {

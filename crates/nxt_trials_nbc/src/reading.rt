@@ -1,14 +1,11 @@
 // Texts that are parsed.
 
 use crate::spelling::program;
-use nxt_forms::NbcFault;
+use nxt_forms::{LONGEST_TEXT, NbcFault};
 use nxt_model::nbc::NbcProgram;
 use nxt_nbc::parse;
 use std::alloc::Global;
 use std::test::Fail;
-
-/// The most bytes that a text may have.
-const LONGEST_TEXT: usize = 16_777_216;
 
 /// The program of a text. Of a longer one only the front is looked at.
 pub(crate) fn parsed(alloc: Global, text: &[u8]) -> Result<NbcProgram, NbcFault> {

@@ -7,6 +7,7 @@ use Rattle.nxt_rxe.specs.declared.parts.Parts.{Parts}
 use Rattle.nxt_rxe.specs.declared.fault.RxeFault.{RxeFault}
 use Rattle.nxt_rxe.specs.declared.fault.RxeFault.TheVariants as sections
 use Rattle.nxt_rxe.specs.FileRules as file_rules
+use Rattle.nxt_rxe.specs.Files.{IsFile}
 use Rattle.nxt_layout.specs.declared.fault.LayoutFault.{LayoutFault}
 use Rattle.nxt_layout.specs.declared.fault.LayoutFault.TheVariants as layouts
 use Rattle.nxt_layout.specs.LayoutRules as layout_rules
@@ -15,6 +16,8 @@ use Rattle.nxt_code.specs.declared.fault.CodeFault.{CodeFault}
 use Rattle.nxt_code.specs.declared.fault.CodeFault.TheVariants as codes
 use Rattle.nxt_code.specs.CodeRules as code_rules
 use Rattle.nxt_tool.specs.declared.fault.AcceptFault.{AcceptFault}
+use Rattle.nxt_tool.specs.declared.fault.AcceptFault.TheVariants.{Refused, NoMemory}
+use Rattle.nxt_tool.specs.declared.fault.Refusal.TheVariants as refusals
 use Rattle.nxt_tool.specs.Refused.{of_sections, of_layout, of_code}
 use Rattle.nxt_tool.specs.Accepted.{HasCause, PartsCause, code_in}
 
@@ -40,3 +43,12 @@ code_cause p ss _ sound shapes (inr h) = (sound, ss, shapes, h)
 pub handed_on : {T : Type 0} (r : Result T AcceptFault) (a : AcceptFault) (P : T → Type 0) (Q : AcceptFault → Type 0) → IsErrAnd r (λ e. e ≡ a) → Q a → MatchResult r P Q
 handed_on (Ok x) a P Q h q = absurd h
 handed_on (Err e) a P Q h q = subst Q (sym h) q
+
+-- a fault of a file's parts is one of the file
+pub parts_cause : (bytes : List ℕ) (p : Parts) → IsFile bytes p → (f : AcceptFault) → PartsCause p f → HasCause bytes f
+parts_cause bytes p file NoMemory h = tt
+parts_cause bytes p file (Refused (refusals.Sections f)) h = absurd h
+parts_cause bytes p file (Refused (refusals.Text f)) h = absurd h
+parts_cause bytes p file (Refused (refusals.Assembler f)) h = absurd h
+parts_cause bytes p file (Refused (refusals.Layout f)) h = (p, file, h)
+parts_cause bytes p file (Refused (refusals.Code f)) h = (p, file, h)

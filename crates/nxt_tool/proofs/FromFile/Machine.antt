@@ -3,9 +3,9 @@ use Rattle.std.proofs.Common.{◌≡◌, sym, ap, ◌∙◌}
 use Rattle.nxt_code.specs.declared.code.Code.{Code as AcceptedCode}
 use Rattle.nxt_rxe.specs.declared.parts.Parts.{Parts}
 use Rattle.nxt_layout.specs.Layouts.{FileLayout}
-use Rattle.nxt_layout.specs.Start.{file_rows}
+use Rattle.nxt_layout.specs.Start.{image_of, file_rows}
 use Rattle.nxt_machine.specs.Machines.{image_at_start}
-use Rattle.nxt_tool.specs.Accepted.{IsJudged, image_of}
+use Rattle.nxt_tool.specs.Accepted.{IsJudged}
 
 -- its image is that of the file
 pub made_image : (p : Parts) (l : FileLayout) (c : AcceptedCode) (j : IsJudged p l c) → image_at_start l j.layout.vars c ≡ image_of p l.shapes j.layout.vars

@@ -3,9 +3,9 @@ use Rattle.std.proofs.Common.{◌≡◌, sym, ap, ◌∙◌, subst}
 use Rattle.nxt_rxe.specs.declared.parts.Parts.{Parts}
 use Rattle.nxt_layout.specs.Layouts.{FileLayout}
 use Rattle.nxt_code.specs.declared.code.Code.{Code as AcceptedCode}
-use Rattle.nxt_layout.specs.Start.{StartsAs, start_footprint}
+use Rattle.nxt_layout.specs.Start.{image_of, StartsAs, start_footprint}
 use Rattle.nxt_model.specs.Image.{Image}
-use Rattle.nxt_tool.specs.Accepted.{BreaksNone, IsJudged, IsRun, IsSound, image_of}
+use Rattle.nxt_tool.specs.Accepted.{BreaksNone, IsJudged, IsRun, IsSound}
 
 shapes_are : (p : Parts) (l : FileLayout) (c : AcceptedCode) (j : IsJudged p l c) → j.layout.shapes ≡ l.shapes
 shapes_are p l c j = sym (ap (λ (x : FileLayout). x.shapes) j.layout.layout)

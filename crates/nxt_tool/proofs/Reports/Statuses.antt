@@ -14,7 +14,7 @@ use Rattle.nxt_tool.specs.declared.words.Command.{Command}
 use Rattle.nxt_tool.specs.declared.words.Description.{Description}
 use Rattle.nxt_tool.specs.declared.words.Description.TheVariants.{Footprint, Listing}
 use Rattle.nxt_tool.specs.Words.{command_of}
-use Rattle.nxt_tool.specs.Accepted.{BreaksNone, IsRun, IsSound, IsAcceptedAs, IsRefused, IsDescribed, accepted_line, code_in, image_of}
+use Rattle.nxt_tool.specs.Accepted.{BreaksNone, IsRun, IsSound, IsAcceptedAs, IsRefused, IsDescribed, accepted_line, code_in}
 use Rattle.nxt_tool.specs.declared.fault.Refusal.{Refusal}
 use Rattle.nxt_tool.specs.declared.fault.Refusal.TheVariants as refusals
 use Rattle.nxt_types.specs.Refusals.{IsRefusal, IsAccepted}
@@ -25,7 +25,7 @@ use Rattle.nxt_rxe.specs.FileRules.{Broken, rank}
 use Rattle.nxt_rxe.proofs.Laws.{file_or_refusal}
 use Rattle.nxt_layout.specs.declared.fault.LayoutFault.{LayoutFault}
 use Rattle.nxt_layout.specs.LayoutRules as layout_rules
-use Rattle.nxt_layout.specs.Start.{HasShapes, start_footprint}
+use Rattle.nxt_layout.specs.Start.{image_of, HasShapes, start_footprint}
 use Rattle.nxt_layout.proofs.Laws.Decided.{layout_or_refusal}
 use Rattle.nxt_code.specs.declared.fault.CodeFault.{CodeFault}
 use Rattle.nxt_code.specs.CodeRules as code_rules
@@ -44,7 +44,7 @@ use Rattle.std.specs.Prelude.{MatchBool}
 use Rattle.nxt_tool.specs.declared.status.Status.{Status}
 use Rattle.nxt_tool.specs.declared.status.Status.TheVariants as status
 
-nothing_yet : (w : Option (List ℕ)) (text : List ℕ) → AppendsFront w w text
+pub nothing_yet : (w : Option (List ℕ)) (text : List ℕ) → AppendsFront w w text
 nothing_yet w text = ([], (text, refl), Appends-none w)
 
 -- a read that failed, where a source that is too long gives TooLarge with no text
@@ -71,6 +71,9 @@ unused status.TooLarge d i r r' e m = (m.0, subst (λ (t : List ℕ). Appends i 
 unused status.ReadFault d i r r' e m = nothing_yet i d.image
 unused status.WriteFault d i r r' e m = nothing_yet i d.image
 unused status.NoMemory d i r r' e m = nothing_yet i d.image
+
+pub unwritten : (d : Answer) (i : Option (List ℕ)) → d.image ≡ [] → Appends i i d.image
+unwritten d i e = subst (λ (t : List ℕ). Appends i i t) (sym e) (Appends-none i)
 
 -- with a status that is no fault, a call gave the due one
 pub right_status : (s : Status) (d : Answer) (r r' : Option (List ℕ)) → Meets s d r r' → (s ≡ status.ReadFault → ⊥) → (s ≡ status.WriteFault → ⊥) → (s ≡ d.status) ⊎ (s ≡ status.NoMemory)
@@ -106,11 +109,11 @@ run_ended status.NoMemory d w w' end is h = absurd end
 
 -- ---- programs
 
-within_by : (long : Bool) (a : Answer) (go : Type 0) → long ≡ false → go → MatchBool long (a ≡ answer status.TooLarge [] []) go
+pub within_by : (long : Bool) (a : Answer) (go : Type 0) → long ≡ false → go → MatchBool long (a ≡ answer status.TooLarge [] []) go
 within_by true a go e is = absurd (let f : ⊥ = cc in f)
 within_by false a go e is = is
 
-short_program : (program : List ℕ) → length program ≤ 262144 → nat_lt 262144 (length program) ≡ false
+pub short_program : (program : List ℕ) → length program ≤ 262144 → nat_lt 262144 (length program) ≡ false
 short_program program h = grind (arith, nat_tests)
 
 -- the line of a refused program is due
@@ -157,7 +160,7 @@ by_length false program script bytes = by_file program script (file_or_refusal p
 pub some_run : (program script : List ℕ) → AreBytes program → (a : Answer) × Run program script a
 some_run program script bytes = by_length (nat_lt 262144 (length program)) program script bytes
 
-too_large : (long : Bool) (go : Type 0) → long ≡ true → MatchBool long (answer status.TooLarge [] [] ≡ answer status.TooLarge [] []) go
+pub too_large : (long : Bool) (go : Type 0) → long ≡ true → MatchBool long (answer status.TooLarge [] [] ≡ answer status.TooLarge [] []) go
 too_large true go e = refl
 too_large false go e = absurd (let f : ⊥ = cc in f)
 
@@ -261,4 +264,4 @@ pub due_to : (words : List (List ℕ)) (command : Option Command) (program scrip
 due_to words command program script a form due = subst (λ o. DueTo o program script a) (sym form) due
 
 pub no_words_answer : (image report : Option (List ℕ)) → Answers status.Words (answer status.Words [] []) image image report report
-no_words_answer image report = record { report_text = (refl, Appends-none report); image_text = (refl, Appends-none image) }
+no_words_answer image report = record { report_text = (refl, Appends-none report); image_text = (refl, Appends-none image); in_turn = inl (Appends-none report) }

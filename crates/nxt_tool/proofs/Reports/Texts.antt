@@ -22,14 +22,14 @@ text_both h (e ∷ es) fs =
     ap (λ t. lines_text (stepped_held h e).lines ++ t) (text_both (after h e) es fs)
     ∙ sym (append_assoc (lines_text (stepped_held h e).lines) (text_from (after h e) es) (text_from (after_all (after h e) es) fs))
 
-text_of_events : (h : Held) (rows : List ScriptRow) → text_of_rows h rows ≡ text_from h (flat_map events_of rows)
+pub text_of_events : (h : Held) (rows : List ScriptRow) → text_of_rows h rows ≡ text_from h (flat_map events_of rows)
 text_of_events h [] = refl
 text_of_events h (row ∷ rows) =
     ap (λ t. text_from h (events_of row) ++ t) (text_of_events (after_all h (events_of row)) rows)
     ∙ sym (text_both h (events_of row) (flat_map events_of rows))
 
 -- without dumps events tell their lines
-tells : (image : Image) (es : List Event) (st : State) (mark : Option Mark) → AllPlain es → Tells (setting image 0) st mark es (text_from (held image st) es)
+pub tells : (image : Image) (es : List Event) (st : State) (mark : Option Mark) → AllPlain es → Tells (setting image 0) st mark es (text_from (held image st) es)
 tells image [] st mark h = refl
 tells image (e ∷ es) st mark h = (
   lines_text (step (program_of image) st e).lines,
@@ -52,7 +52,7 @@ plain_of : (row : ScriptRow) → IsPlain row → AllPlain (events_of row)
 plain_of (Run n) h = plain_bytecodes n
 plain_of (One e) h = (h, tt)
 
-plain_all : (rows : List ScriptRow) → ArePlain rows → AllPlain (flat_map events_of rows)
+pub plain_all : (rows : List ScriptRow) → ArePlain rows → AllPlain (flat_map events_of rows)
 plain_all [] h = tt
 plain_all (row ∷ rows) h = plain_both (events_of row) (flat_map events_of rows) (plain_of row h.0) (plain_all rows h.1)
 

@@ -1,7 +1,7 @@
 -- The least line of the statements before this one.
 use Rattle.std.proofs.Common.{◌≡◌, ℕ, take}
 use Rattle.nxt_model.specs.Assembled.{starts_from}
-use Rattle.nxt_asm.specs.AsmRules.{far_in_body}
+use Rattle.nxt_limits.specs.AsmRules.{far_in_body}
 use Rattle.nxt_forms.specs.Firsts.{IsLeast}
 use Rattle.nxt_asm.proofs.jumps.far_in_body.Given as goal
 

@@ -1,7 +1,7 @@
 use Rattle.std.proofs.Common.{◌≡◌, ◌++◌, OnOk, rules}
 use Rattle.std.proofs.lemmas.Result.{on_ok_weaker}
 use Rattle.nxt_types.specs.Statements.{long_form_of}
-use Rattle.nxt_instr.proofs.LongForms.{appended, appended_more}
+use Rattle.nxt_instr.proofs.Laws.LongForms.{appended, appended_more}
 use Rattle.nxt_instr.proofs.encoding.encode.Goals as goal
 
 pub returns-clause-back : goal.returns-clause-back

@@ -5,7 +5,7 @@ use Rattle.nxt_forms.specs.Seen.{form_seen, formed_seen, line_form_seen}
 use Rattle.nxt_forms.specs.Whole.{AreWhole}
 use Rattle.nxt_forms.proofs.Laws.Whole.{line_whole_at}
 use Rattle.nxt_names.specs.SourceSeen.{source_seen}
-use Rattle.nxt_kinds.proofs.FirstWrong.{first_wrong, least_line, none_left, pair_at}
+use Rattle.nxt_kinds.proofs.Laws.FirstWrong.{first_wrong, least_line, none_left, pair_at}
 use Rattle.nxt_kinds.proofs.kinds.wrong_kind.Goals as goal
 
 pub wrong_operand-requires-clause-whole : goal.wrong_operand-requires-clause-whole

@@ -3,7 +3,7 @@ use Rattle.std.proofs.Common.{◌≡◌, drop, map}
 use Rattle.nxt_forms.specs.Firsts.{first_pair}
 use Rattle.nxt_forms.specs.Seen.{line_form_seen}
 use Rattle.nxt_names.specs.SourceSeen.{source_seen}
-use Rattle.nxt_kinds.proofs.FirstWrong.{first_wrong}
+use Rattle.nxt_kinds.proofs.Laws.FirstWrong.{first_wrong}
 use Rattle.nxt_kinds.proofs.kinds.wrong_kind.Given as goal
 
 abbrev pub invariant-loop-line : goal.invariant-loop-line

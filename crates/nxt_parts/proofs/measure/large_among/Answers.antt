@@ -1,7 +1,7 @@
 use Rattle.std.proofs.Common.{◌∙◌, arith}
 use Rattle.nxt_model.specs.TextProgram.{base_shape}
 use Rattle.nxt_parts.specs.MeasuresSeen.{shapes_seen}
-use Rattle.nxt_parts.proofs.LargeElements.{large_base, no_array, small_base}
+use Rattle.nxt_parts.proofs.Laws.LargeElements.{large_base, no_array, small_base}
 use Rattle.nxt_parts.proofs.measure.large_among.Goals as goal
 use Rattle.nxt_parts.proofs.measure.large_among.Goals.{else-of-gt0-via-then-of-gt0+else-bytes-gt-MOST_ELEMENT, else-of-gt0-via-else-of-gt0}
 

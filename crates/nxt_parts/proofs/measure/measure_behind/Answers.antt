@@ -2,7 +2,7 @@ use Rattle.std.proofs.Common.{map, take}
 use Rattle.nxt_model.specs.TextProgram.{shape_by}
 use Rattle.nxt_parts.specs.MeasuresSeen.{shapes_seen}
 use Rattle.nxt_parts.proofs.StructShapes.{cluster_more, members_more}
-use Rattle.nxt_parts.proofs.LargeElements.{large_more}
+use Rattle.nxt_parts.proofs.Laws.LargeElements.{large_more}
 use Rattle.nxt_parts.proofs.measure.measure_behind.Goals as goal
 
 pub loop-of-preserved : goal.loop-of-preserved

@@ -4,7 +4,8 @@ use Rattle.nxt_types.specs.declared.shape.TocEntry.{TocEntry}
 use Rattle.nxt_types.specs.declared.lists.ClumpRec.{ClumpRec}
 use Rattle.nxt_rxe.specs.Files.{two_bytes, entry_bytes, clump_bytes, head_bytes, EntryFits, ClumpFits, IsFile}
 use Rattle.nxt_rxe.proofs.Files.OneList.{at_most_one}
-use Rattle.nxt_rxe.proofs.Files.RoundTrip.{is_file, joined}
+use Rattle.nxt_rxe.proofs.Files.Joined.{joined}
+use Rattle.nxt_rxe.proofs.Laws.Written.{is_file}
 use Rattle.nxt_rxe.proofs.file.write_rxe.Goals as goal
 
 pub returns-clause-written : goal.returns-clause-written

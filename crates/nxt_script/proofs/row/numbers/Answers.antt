@@ -21,7 +21,7 @@ returns-in_err-found-clause-value g c =
     let field = c.in_ok-field.field.now in
     let some : field_at fs (i + 1) ≡ Some field = sym c.get.ensures.value ∙ ap (λ o. option_map (λ s. s.now) o) c.in_ok-field.was in
     rw c.from_residual-in_err-found.ensures
-    (sym (no_number _ c.args.ranges.now fs c.loop-i.found i _ field (omega arith) some (sym c.number.ensures.value ∙ c.in_err-found.was)) ∙ c.loop-i.invariant.value)
+    (sym (no_number _ c.args.ranges.now fs c.loop-i.found i _ field (omega arith) some (sym c.number_in.ensures.value ∙ c.in_err-found.was)) ∙ c.loop-i.invariant.value)
 
 pub loop-i-preserved : goal.loop-i-preserved
 loop-i-preserved g c =
@@ -31,7 +31,7 @@ loop-i-preserved g c =
     let z = c.in_ok-found.field-0 in
     let fits : SFits w64 z = search rules in
     let some : field_at fs (i + 1) ≡ Some field = sym c.get.ensures.value ∙ ap (λ o. option_map (λ s. s.now) o) c.in_ok-field.was in
-    let number = sym c.number.ensures.value ∙ (c.in_ok-found.was ∙ ap (λ n. Some n) (sym (to_z-of_z w64 z fits))) in
+    let number = sym c.number_in.ensures.value ∙ (c.in_ok-found.was ∙ ap (λ n. Some n) (sym (to_z-of_z w64 z fits))) in
     let same : to_z w64 (of_z w64 z) ≡ z = to_z-of_z w64 z fits in
     record {
       long = search rules;

@@ -1,21 +1,76 @@
 -- What is due to each command, and to words of no form.
-use Rattle.std.proofs.Common.{rules, ◌≡◌, refl, Some, None, []}
+use Rattle.std.proofs.Common.{rules, ◌≡◌, refl, Some, None, [], inl, inr, ⊎_elim}
 use Rattle.nxt_tool.specs.Due.{answer}
 use Rattle.nxt_tool.specs.Words.{command_of, texts_of}
-use Rattle.nxt_tool.specs.declared.words.Command.TheVariants.{RunRxe, Describe}
+use Rattle.nxt_tool.specs.declared.words.Command.TheVariants.{RunRxe, RunNbc, Assemble, Describe, Generate}
 use Rattle.nxt_tool.specs.declared.status.Status.TheVariants as status
-use Rattle.nxt_tool.proofs.Reports.Statuses.{unused, no_image, no_image_description, due_to, no_words_answer}
+use Rattle.nxt_tool.proofs.Reports.Statuses.{unused, unwritten, no_image, no_image_description, due_to, no_words_answer}
+use Rattle.nxt_tool.proofs.Reports.TextRuns.{no_image_text}
+use Rattle.nxt_tool.proofs.Reports.Generated.{no_image_generated}
 use Rattle.nxt_tool.proofs.entry.answer.Goals as goal
 
 pub returns-in-Some-RunRxe-clause-told : goal.returns-in-Some-RunRxe-clause-told
 returns-in-Some-RunRxe-clause-told g c = λ b s bytes program script.
     let words = texts_of c.args.words.now in
     let form : command_of words ≡ Some RunRxe = search rules in
-    let told = c.run.ensures.told b s bytes (program (search rules)) (λ reads. script (form, reads)) in (
+    let told = c.run.ensures.told b s bytes (program (search rules)) (λ reads. script (RunRxe, form, reads)) in (
       told.0,
       due_to words (Some RunRxe) b s told.0 form told.1,
-      record { report_text = told.2; image_text = unused c.run.result told.0 _ _ _ (no_image b s told.0 told.1) told.2 },
+      record { report_text = told.2; image_text = unused c.run.result told.0 _ _ _ (no_image b s told.0 told.1) told.2; in_turn = inr (unwritten told.0 _ (no_image b s told.0 told.1)) },
     )
+
+pub returns-in-Some-RunRxe-clause-read : goal.returns-in-Some-RunRxe-clause-read
+returns-in-Some-RunRxe-clause-read g c = λ failed.
+    let words = texts_of c.args.words.now in
+    let form : command_of words ≡ Some RunRxe = search rules in
+    ⊎_elim inl (λ rose. inr ((RunRxe, form, rose.0), rose.1)) (c.run.ensures.read failed)
+
+pub returns-in-Some-RunRxe-clause-script : goal.returns-in-Some-RunRxe-clause-script
+returns-in-Some-RunRxe-clause-script g c = λ no.
+    let words = texts_of c.args.words.now in
+    let form : command_of words ≡ Some RunRxe = search rules in
+    c.run.ensures.unread (λ accepts. no (RunRxe, form, accepts))
+
+pub returns-in-Some-RunNbc-clause-told : goal.returns-in-Some-RunNbc-clause-told
+returns-in-Some-RunNbc-clause-told g c = λ b s bytes program script.
+    let words = texts_of c.args.words.now in
+    let form : command_of words ≡ Some RunNbc = search rules in
+    let told = c.run_text.ensures.told b s bytes (program (search rules)) (λ reads. script (RunNbc, form, reads)) in (
+      told.0,
+      due_to words (Some RunNbc) b s told.0 form told.1,
+      record { report_text = told.2; image_text = unused c.run_text.result told.0 _ _ _ (no_image_text b s told.0 told.1) told.2; in_turn = inr (unwritten told.0 _ (no_image_text b s told.0 told.1)) },
+    )
+
+pub returns-in-Some-RunNbc-clause-read : goal.returns-in-Some-RunNbc-clause-read
+returns-in-Some-RunNbc-clause-read g c = λ failed.
+    let words = texts_of c.args.words.now in
+    let form : command_of words ≡ Some RunNbc = search rules in
+    ⊎_elim inl (λ rose. inr ((RunNbc, form, rose.0), rose.1)) (c.run_text.ensures.read failed)
+
+pub returns-in-Some-RunNbc-clause-script : goal.returns-in-Some-RunNbc-clause-script
+returns-in-Some-RunNbc-clause-script g c = λ no.
+    let words = texts_of c.args.words.now in
+    let form : command_of words ≡ Some RunNbc = search rules in
+    c.run_text.ensures.unread (λ accepts. no (RunNbc, form, accepts))
+
+pub returns-in-Some-Assemble-clause-told : goal.returns-in-Some-Assemble-clause-told
+returns-in-Some-Assemble-clause-told g c = λ b s bytes program script.
+    let words = texts_of c.args.words.now in
+    let form : command_of words ≡ Some Assemble = search rules in
+    let told = c.assemble_file.ensures.told b bytes (program (search rules)) in
+    (told.0, due_to words (Some Assemble) b s told.0 form told.1, told.2)
+
+pub returns-in-Some-Assemble-clause-write : goal.returns-in-Some-Assemble-clause-write
+returns-in-Some-Assemble-clause-write g c = λ failed.
+    let words = texts_of c.args.words.now in
+    let form : command_of words ≡ Some Assemble = search rules in
+    ⊎_elim inl (λ rose. inr ((form, rose.0), rose.1)) (c.assemble_file.ensures.write failed)
+
+pub returns-in-Some-Assemble-clause-image : goal.returns-in-Some-Assemble-clause-image
+returns-in-Some-Assemble-clause-image g c = λ no.
+    let words = texts_of c.args.words.now in
+    let form : command_of words ≡ Some Assemble = search rules in
+    c.assemble_file.ensures.unwritten (λ images. no (form, images))
 
 pub returns-in-Some-Describe-clause-told : goal.returns-in-Some-Describe-clause-told
 returns-in-Some-Describe-clause-told g c = λ b s bytes program script.
@@ -25,7 +80,18 @@ returns-in-Some-Describe-clause-told g c = λ b s bytes program script.
     let told = c.describe_file.ensures.told b bytes (program (search rules)) in (
       told.0,
       due_to words (Some (Describe d)) b s told.0 form told.1,
-      record { report_text = told.2; image_text = unused c.describe_file.result told.0 _ _ _ (no_image_description d b told.0 told.1) told.2 },
+      record { report_text = told.2; image_text = unused c.describe_file.result told.0 _ _ _ (no_image_description d b told.0 told.1) told.2; in_turn = inr (unwritten told.0 _ (no_image_description d b told.0 told.1)) },
+    )
+
+pub returns-in-Some-Generate-clause-told : goal.returns-in-Some-Generate-clause-told
+returns-in-Some-Generate-clause-told g c = λ b s bytes program script.
+    let words = texts_of c.args.words.now in
+    let n = c.in-Some-Generate.number in
+    let form : command_of words ≡ Some (Generate n) = search rules in
+    let told = c.tell_generated.ensures.told in (
+      told.0,
+      due_to words (Some (Generate n)) b s told.0 form told.1,
+      record { report_text = told.2; image_text = unused c.tell_generated.result told.0 _ _ _ (no_image_generated n told.0 told.1) told.2; in_turn = inr (unwritten told.0 _ (no_image_generated n told.0 told.1)) },
     )
 
 pub returns-in-None-clause-told : goal.returns-in-None-clause-told

@@ -3,8 +3,9 @@ use Rattle.std.proofs.Common.{◌≡◌, inr, ℕ, ◌≤◌, ◌∙◌, List, O
 use Rattle.nxt_edge.proofs.Laws.{Consumes-longer}
 use Rattle.nxt_machine.specs.Machines.{MachineViews}
 use Rattle.nxt_tool.specs.Accepted.{IsAcceptedAs, IsRefused, HasCause}
-use Rattle.nxt_tool.specs.Due.{ReadsScript, Accepts, answer_to, refused_answer}
+use Rattle.nxt_tool.specs.Due.{Accepts, AcceptsImage, answer_to, refused_answer}
 use Rattle.nxt_tool.specs.declared.fault.AcceptFault.TheVariants.{Refused}
+use Rattle.nxt_tool.specs.declared.words.Command.TheVariants.{RunRxe}
 use Rattle.nxt_tool.proofs.Reports.Statuses.{long_list, read_is, run_on, accepted_run, refused_run, unread_run, no_memory_run}
 use Rattle.nxt_tool.proofs.entry.run.Goals as goal
 
@@ -15,7 +16,7 @@ returns-in-Err-clause-told g c = λ b s bytes program script.
     long_list _ b 262144 program (Consumes-longer _ _ 262144 taken.0 taken.1 taken.2)))
 
 -- the script is read behind a program that is accepted
-reads_script : (b bytes : List ℕ) (m : MachineViews) → bytes ≡ b → length bytes ≤ 262144 → IsAcceptedAs bytes m.image → ReadsScript b
+reads_script : (b bytes : List ℕ) (m : MachineViews) → bytes ≡ b → length bytes ≤ 262144 → IsAcceptedAs bytes m.image → AcceptsImage b
 reads_script b bytes m same within accepted =
     record {
       within = subst (λ (l : List ℕ). length l ≤ 262144) same within;
@@ -23,7 +24,7 @@ reads_script b bytes m same within accepted =
       accepted = subst (λ (l : List ℕ). IsAcceptedAs l m.image) same accepted;
     }
 
-if_told : (o : Option (List ℕ)) → ((b : List ℕ) → o ≡ Some b → ReadsScript b) → Accepts o
+if_told : (o : Option (List ℕ)) → ((b : List ℕ) → o ≡ Some b → AcceptsImage b) → Accepts RunRxe o
 if_told None reads = tt
 if_told (Some b) reads = reads b refl
 
@@ -48,7 +49,7 @@ returns-in-Ok-accept-clause-told g c = λ b s bytes program script.
     let same : c.in-Ok.bytes ≡ b = read_is _ b _ program c.in-Ok.ensures.all in
     let few : length b ≤ 262144 = subst (λ (l : List ℕ). length l ≤ 262144) same c.in-Ok.ensures.within in
     let accepted : IsAcceptedAs b image = subst (λ (l : List ℕ). IsAcceptedAs l image) (c.as_slice.ensures ∙ same) c.in-Ok-accept.ensures.accepted in
-    let reads : ReadsScript b = record { within = few; image = image; accepted = accepted } in
+    let reads : AcceptsImage b = record { within = few; image = image; accepted = accepted } in
     (answer_to image s, accepted_run b s image _ few accepted (run_on image s), c.run_program.ensures.told s (script reads))
 
 pub returns-in-Err-NoMemory-clause-told : goal.returns-in-Err-NoMemory-clause-told

@@ -3,7 +3,7 @@ use Rattle.nxt_types.specs.declared.kind.Kind.TheVariants.{Ubyte}
 use Rattle.nxt_model.specs.TextProgram.{struct_shapes}
 use Rattle.nxt_model.specs.declared.nbc.NbcBase.TheVariants as bases
 use Rattle.nxt_model.specs.declared.nbc.NbcType.{NbcType}
-use Rattle.nxt_parts.proofs.LargeElements.{large_more, large_seen}
+use Rattle.nxt_parts.proofs.Laws.LargeElements.{large_more, large_seen}
 use Rattle.nxt_parts.proofs.measure.Measures.large_element.Goals as goal
 
 pub loop-of-preserved : goal.loop-of-preserved

@@ -1,0 +1,2 @@
+-- No generated text is too large.
+pub mod Short

@@ -1,0 +1,2 @@
+-- What holds of the program of every text that keeps the rules.
+pub mod Laws

@@ -1,0 +1,2 @@
+//! The file of an assembled text is accepted, with the text's image. There is no code here.
+#![tactic(auto)]

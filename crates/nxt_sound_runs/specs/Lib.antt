@@ -1,0 +1,2 @@
+-- Parts whose image runs as a text.
+pub mod Runs
