@@ -1,0 +1,3 @@
+pub mod Pools
+pub mod Orders
+pub mod Steps

@@ -1,0 +1,2 @@
+-- The bytes of all blocks of a pool.
+mod Room
