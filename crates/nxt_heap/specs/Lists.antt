@@ -42,9 +42,9 @@ stride_at h row = stride_of (list_at h row)
 abbrev pub bytes_at : Lists → ℕ → List ℕ
 bytes_at h row = bytes_of (list_at h row)
 
--- the table stands right above the static bytes
-abbrev pub table_of : Lists → ℕ
-table_of h = round4 (length h.static_bytes)
+-- no block begins below the end of the static bytes
+abbrev pub base_of : Lists → ℕ
+base_of h = round4 (length h.static_bytes)
 
 -- the row has a list
 abbrev pub IsAlive : Lists → ℕ → Type 0

@@ -1,22 +1,249 @@
-// Blocks of bytes in the pool, and the places that the rows name.
+// The blocks of a pool: the table of rows and each list that has bytes, with gaps between them.
 
-ghost use Rattle.std.specs.Prelude.{◌≡◌, ◌≢◌, ◌+◌, ◌-◌, ◌*◌, ◌%◌, ◌<◌, ◌≤◌, ◌^◌, ℕ, [], ◌∷◌, ◌++◌, length, replicate, slice_index, slice_set, take, drop, IfOk, IfErr, OnErr, None, ◌==◌, if◌then◌else◌};
-ghost use Rattle.std.specs.List.{SameBelow, SameFrom};
-ghost use Rattle.nxt_facts.specs.PutAt.{put_at};
+ghost use Rattle.std.specs.Prelude.{◌≡◌, ◌≢◌, ◌+◌, ◌*◌, ◌%◌, ◌<◌, ◌≤◌, ◌-◌, ◌/◌, ◌↔◌, ◌⊎◌, ℕ, List, [], None, length, take, drop, replicate, slice_index, IsTrue, IfSome, IfNone, IfOk, IfErr, OnErr};
 ghost use Rattle.nxt_types.specs.Pool.{round4 as rounded, pool_size};
-ghost use Rattle.nxt_rows.specs.Rows.{dope_row, row_count, no_place, free_rows};
-ghost use Rattle.nxt_heap.specs.Lists.{empty_list};
-ghost use Rattle.nxt_heap.specs.Inside.Pool.{row_bytes as bytes_in_row, row_block, start_of, end_of, row_in_place, lists_in, lists_with_length, lists_with_bytes, Takes, IsFull, IsDense};
+ghost use Rattle.nxt_rows.specs.Rows.{dope_row, row_count, free_rows, no_place};
+ghost use Rattle.nxt_blocks.specs.Blocks.{place_after, total};
+ghost use Rattle.nxt_compact.specs.Pools.{IsFull, block_bytes as bytes_of_block, blocks_in, slid_in, Compacts};
+ghost use Rattle.nxt_facts.specs.PutAt.{put_at};
+ghost use Rattle.nxt_heap.specs.declared.blocks.Places.{Places};
+ghost use Rattle.nxt_compact.specs.Steps.{moved_to};
+ghost use Rattle.nxt_heap.specs.Inside.Pool.{IsPool, IsEnd, AreFronts, IsHole, IsFit, IsRoom, AreBlocks, BlocksMove, MayHave, HasMoved, IsListRow, Relists, HasLength, Frees, Takes, IsRefused, HasRow, AddsRow, Stores, lists_in, row_bytes as bytes_in_row, words, no_row};
 
+use crate::fronts::{NO_ROW, first_fit, first_front, last_end, note_all, word};
 use crate::passed::PoolPassed;
+use nxt_compact::{block_bytes, compact, move_block, open_gap};
 use nxt_rows::{DopeRow, NO_PLACE, free_row, get, set, take_row};
 use nxt_types::pool::{POOL_BYTES, ROW_BYTES, round4};
 
-/// Bytes that stand together.
+/// The places of a pool: where blocks may begin, where the table stands, where the last block ends, and where it would end
+/// without gaps.
 #[derive(Clone, Copy)]
-pub struct Block {
-    pub start: usize,
-    pub bytes: usize,
+pub struct Places {
+    pub base: u32,
+    pub table: u32,
+    pub end: u32,
+    pub footprint: u32,
+}
+
+/// The front of the lowest hole that holds so many bytes.
+fn hole(pool: &[u8], fronts: &[u16], at: Places, bytes: u32) -> Option<u32>
+    requires blocks { AreBlocks pool.now fronts.now at }
+    requires word { bytes % 4 ≡ 0 }
+    requires some { 0 < bytes }
+    ensures some { IfSome result (IsFit pool.now at.table at.base bytes) }
+    ensures none { IfNone result ((p : ℕ) → at.base ≤ p → IsHole pool.now at.table p bytes → ⊥) }
+{
+    let start = if at.end == at.footprint {
+        at.end
+    } else {
+        at.base
+    };
+    first_fit(fronts, pool, at.table, start, bytes)
+}
+
+/// Moves a row's block into a hole.
+fn move_to(pool: &mut [u8], fronts: &mut [u16], at: &mut Places, row: u16, place: u32)
+    requires blocks { AreBlocks pool.old fronts.old at.old }
+    requires full { IsFull pool.old at.old.table row }
+    requires above { at.old.base ≤ place }
+    requires word { place % 4 ≡ 0 }
+    requires hole { IsHole pool.old at.old.table place (bytes_of_block (dope_row pool.old at.old.table row)) }
+    ensures { BlocksMove pool.old fronts.old pool.new fronts.new at.old at.new (moved_to (dope_row pool.old at.old.table row).place place) }
+{
+    let from = get(pool, at.table, row).place as u32;
+    fronts[word(from)] = NO_ROW;
+    move_block(pool, &mut at.table, row, place);
+    fronts[word(place)] = row;
+    at.end = end_after(pool, fronts, *at, row, from);
+}
+
+/// Where the last block ends once the block of a row has moved from a place.
+fn end_after(pool: &[u8], fronts: &[u16], at: Places, row: u16, from: u32) -> u32
+    requires pool { IsPool pool.now at.table at.base }
+    requires fronts { AreFronts pool.now at.table fronts.now }
+    requires moved { HasMoved pool.now at row from }
+    ensures { IsEnd pool.now at.table result }
+{
+    let found = get(pool, at.table, row);
+    let bytes = block_bytes(found) as u32;
+    let end = found.place as u32 + bytes;
+    if end >= at.end {
+        end
+    } else if from + bytes == at.end {
+        last_end(fronts, pool, at.table, from)
+    } else {
+        at.end
+    }
+}
+
+/// Moves up to `k` of the lowest blocks that have a gap below down to the end of the block before, and gives the number of
+/// blocks that moved.
+pub fn settle(pool: &mut [u8], fronts: &mut [u16], at: &mut Places, k: u16) -> u16
+    requires { AreBlocks pool.old fronts.old at.old }
+    ensures moves { BlocksMove pool.old fronts.old pool.new fronts.new at.old at.new (place_after k at.old.base (blocks_in pool.old at.old.table)) }
+    ensures compacts { Compacts at.old.base k pool.old pool.new at.old.table at.new.table result }
+{
+    if at.end == at.footprint {
+        return 0;
+    }
+    let settled = compact(pool, &mut at.table, at.base, k);
+    at.end = refresh(pool, fronts, at.table);
+    settled
+}
+
+/// Opens room for so many bytes in a row's block by moving other blocks, and gives the block's place.
+fn slide(pool: &mut [u8], fronts: &mut [u16], at: &mut Places, row: u16, bytes: u32) -> u32
+    requires blocks { AreBlocks pool.old fronts.old at.old }
+    requires may { MayHave pool.old at.old.table at.old.base row bytes }
+    requires full { IsFull pool.old at.old.table row }
+    requires longer { bytes_of_block (dope_row pool.old at.old.table row) < bytes }
+    ensures moves { BlocksMove pool.old fronts.old pool.new fronts.new at.old at.new (slid_in pool.old at.old.table at.old.base row (bytes - bytes_of_block (dope_row pool.old at.old.table row))) }
+    ensures room { IsRoom pool.new at.new.table at.new.base row result bytes }
+{
+    open_gap(pool, &mut at.table, at.base, row, bytes);
+    at.end = refresh(pool, fronts, at.table);
+    get(pool, at.table, row).place as u32
+}
+
+/// Notes anew where blocks begin, and gives the end of the last one.
+fn refresh(pool: &[u8], fronts: &mut [u16], table: u32) -> u32
+    requires pool { (base : ℕ) × IsPool pool.now table base }
+    requires size { length fronts.old ≡ words }
+    ensures fronts { AreFronts pool.now table fronts.new }
+    ensures end { IsEnd pool.now table result }
+{
+    note_all(fronts, pool, table);
+    last_end(fronts, pool, table, POOL_BYTES as u32)
+}
+
+/// Gives a row's block room for so many bytes, and gives the block's place, or where it is to stand if the row has none.
+/// Blocks move only at need.
+pub fn make_room(pool: &mut [u8], fronts: &mut [u16], at: &mut Places, row: u16, bytes: u32) -> u32
+    requires blocks { AreBlocks pool.old fronts.old at.old }
+    requires may { MayHave pool.old at.old.table at.old.base row bytes }
+    ensures moves { (to : ℕ → ℕ) × BlocksMove pool.old fronts.old pool.new fronts.new at.old at.new to }
+    ensures room { IsRoom pool.new at.new.table at.new.base row result bytes }
+{
+    let found = get(pool, at.table, row);
+    let had = block_bytes(found) as u32;
+    let place = found.place as u32;
+    if had == 0 {
+        place_new(pool, fronts, at, row, bytes)
+    } else if is_open(fronts, place + had, place + bytes) {
+        place
+    } else {
+        place_longer(pool, fronts, at, row, bytes)
+    }
+}
+
+/// Whether no block begins from a place on and below another, which lies in the pool.
+fn is_open(fronts: &[u16], from: u32, to: u32) -> bool
+    requires { length fronts.now ≡ words }
+    ensures { IsTrue result ↔ ((to ≤ pool_size) × ((w : ℕ) → from / 4 ≤ w → w < to / 4 → slice_index fronts.now w ≡ no_row)) }
+{
+    to as u64 <= POOL_BYTES && first_front(fronts, word(from), word(to)).is_none()
+}
+
+/// Moves a row's block into a hole for so many bytes, or opens room behind it, and gives the block's place.
+fn place_longer(pool: &mut [u8], fronts: &mut [u16], at: &mut Places, row: u16, bytes: u32) -> u32
+    requires blocks { AreBlocks pool.old fronts.old at.old }
+    requires may { MayHave pool.old at.old.table at.old.base row bytes }
+    requires full { IsFull pool.old at.old.table row }
+    requires longer { bytes_of_block (dope_row pool.old at.old.table row) < bytes }
+    ensures moves { (to : ℕ → ℕ) × BlocksMove pool.old fronts.old pool.new fronts.new at.old at.new to }
+    ensures room { IsRoom pool.new at.new.table at.new.base row result bytes }
+{
+    match hole(pool, fronts, *at, bytes) {
+        Some(place) => {
+            move_to(pool, fronts, at, row, place);
+            place
+        }
+        None => slide(pool, fronts, at, row, bytes),
+    }
+}
+
+/// Finds a hole for so many bytes of a row without a block, or closes all gaps, and gives the place.
+fn place_new(pool: &mut [u8], fronts: &mut [u16], at: &mut Places, row: u16, bytes: u32) -> u32
+    requires blocks { AreBlocks pool.old fronts.old at.old }
+    requires may { MayHave pool.old at.old.table at.old.base row bytes }
+    requires empty { bytes_of_block (dope_row pool.old at.old.table row) ≡ 0 }
+    ensures moves { (to : ℕ → ℕ) × BlocksMove pool.old fronts.old pool.new fronts.new at.old at.new to }
+    ensures room { IsRoom pool.new at.new.table at.new.base row result bytes }
+{
+    match hole(pool, fronts, *at, bytes) {
+        Some(place) => place,
+        None => {
+            settle(pool, fronts, at, u16::MAX);
+            at.footprint
+        }
+    }
+}
+
+/// Gives a list so many bytes at a place that has room for them. Its front stays, and new bytes are 0.
+fn set_length(
+    pool: &mut [u8],
+    fronts: &mut [u16],
+    at: &mut Places,
+    row: u16,
+    place: u32,
+    bytes: u32,
+)
+    requires blocks { AreBlocks pool.old fronts.old at.old }
+    requires list { IsListRow pool.old at.old.table row bytes }
+    requires some { 0 < bytes }
+    requires room { IsRoom pool.old at.old.table at.old.base row place (rounded bytes) }
+    ensures { HasLength pool.old pool.new fronts.new at.old at.new row bytes }
+{
+    let block = block_bytes(get(pool, at.table, row)) as u32;
+    let room = round4(bytes as u64) as u32;
+    write_length(pool, at.table, row, place, bytes);
+    fronts[word(place)] = row;
+    at.end = if place + block == at.end {
+        place + room
+    } else {
+        at.end.max(place + room)
+    };
+    at.footprint = at.footprint + room - block;
+}
+
+/// Writes the row of a list that has so many bytes at a place, and zeros behind its front.
+fn write_length(pool: &mut [u8], table: u32, row: u16, place: u32, bytes: u32)
+    requires list { IsListRow pool.old table row bytes }
+    requires table { table + 10 * row_count pool.old table ≤ length pool.old }
+    requires size { length pool.old ≤ pool_size }
+    requires room { place + rounded bytes ≤ length pool.old }
+    requires apart { (table + 10 * row_count pool.old table ≤ place) ⊎ (place + rounded bytes ≤ table) }
+    requires some { 0 < bytes }
+    ensures relists { Relists pool.old pool.new table row place (bytes / (dope_row pool.old table row).stride) (rounded bytes) }
+    ensures keeps { (k : ℕ) → k < bytes_in_row (dope_row pool.old table row) → k < bytes → slice_index pool.new (place + k) ≡ slice_index pool.old (place + k) }
+    ensures zeros { (k : ℕ) → bytes_in_row (dope_row pool.old table row) ≤ k → k < bytes → slice_index pool.new (place + k) ≡ 0 }
+{
+    let found = get(pool, table, row);
+    let had = byte_count(found).min(bytes);
+    clear(pool, (place + had) as usize, (place + bytes) as usize);
+    let count = (bytes / found.stride as u32) as u16;
+    let place = place as u16;
+    set(
+        pool,
+        table,
+        row,
+        DopeRow {
+            place,
+            count,
+            ..found
+        },
+    );
+}
+
+/// Makes the bytes between two places 0.
+fn clear(pool: &mut [u8], from: usize, to: usize)
+    requires order { from ≤ to }
+    requires end { to ≤ length pool.old }
+    ensures zeros { (k : ℕ) → from ≤ k → k < to → slice_index pool.new k ≡ 0 }
+    ensures outside { (k : ℕ) → (k < from) ⊎ (to ≤ k) → slice_index pool.new k ≡ slice_index pool.old k }
+{
+    pool[from..to].fill(0);
 }
 
 /// How many bytes a row's list has.
@@ -26,23 +253,186 @@ pub fn byte_count(row: DopeRow) -> u32
     row.count as u32 * row.stride as u32
 }
 
-/// How many bytes a row's block has.
-#[tactic(auto, unfolding(crate::specs::Inside::Pool::row_block))]
-pub fn block_bytes(row: DopeRow) -> u32
-    requires { row_block row ≤ pool_size }
-    ensures { result ≡ row_block row }
+/// Gives a list no bytes.
+fn drop_bytes(pool: &mut [u8], fronts: &mut [u16], at: &mut Places, row: u16)
+    requires blocks { AreBlocks pool.old fronts.old at.old }
+    requires list { IsListRow pool.old at.old.table row 0 }
+    ensures length { HasLength pool.old pool.new fronts.new at.old at.new row 0 }
+    ensures row { Relists pool.old pool.new at.old.table row no_place 0 0 }
+    ensures table { at.new.table ≡ at.old.table }
 {
-    round4(byte_count(row) as u64) as u32
+    let found = get(pool, at.table, row);
+    let block = block_bytes(found) as u32;
+    write_none(pool, at.table, row);
+    if block > 0 {
+        let place = found.place as u32;
+        fronts[word(place)] = NO_ROW;
+        at.end = if place + block == at.end {
+            last_end(fronts, pool, at.table, place)
+        } else {
+            at.end
+        };
+        at.footprint -= block;
+    }
+}
+
+/// Writes the row of a list without bytes.
+fn write_none(pool: &mut [u8], table: u32, row: u16)
+    requires { table + 10 * (row + 1) ≤ length pool.old }
+    ensures { Relists pool.old pool.new table row no_place 0 0 }
+{
+    let found = get(pool, table, row);
+    let (place, count) = (NO_PLACE, 0);
+    set(
+        pool,
+        table,
+        row,
+        DopeRow {
+            place,
+            count,
+            ..found
+        },
+    );
+}
+
+/// Gives a list so many bytes, a multiple of its stride. Its front stays, and new bytes are 0.
+pub fn resize_list(pool: &mut [u8], fronts: &mut [u16], at: &mut Places, row: u16, bytes: u32)
+    requires blocks { AreBlocks pool.old fronts.old at.old }
+    requires list { IsListRow pool.old at.old.table row bytes }
+    requires fits { at.old.footprint + rounded bytes ≤ pool_size + bytes_of_block (dope_row pool.old at.old.table row) }
+    ensures { HasLength pool.old pool.new fronts.new at.old at.new row bytes }
+{
+    if bytes == 0 {
+        drop_bytes(pool, fronts, at, row);
+        return;
+    }
+    let room = round4(bytes as u64) as u32;
+    let place = make_room(pool, fronts, at, row, room);
+    set_length(pool, fronts, at, row, place, bytes);
+}
+
+/// Frees a list and its row.
+pub fn free_list(pool: &mut [u8], fronts: &mut [u16], at: &mut Places, row: u16)
+    requires blocks { AreBlocks pool.old fronts.old at.old }
+    requires list { IsListRow pool.old at.old.table row 0 }
+    ensures { Frees pool.old pool.new fronts.new at.old at.new row }
+{
+    drop_bytes(pool, fronts, at, row);
+    free_row(pool, at.table, row);
+}
+
+/// Takes a free row for an empty list, or adds one to the table where the pool holds it.
+pub fn new_list(
+    pool: &mut [u8],
+    fronts: &mut [u16],
+    at: &mut Places,
+    stride: u16,
+) -> Result<u16, PoolPassed>
+    requires blocks { AreBlocks pool.old fronts.old at.old }
+    requires stride { 1 ≤ stride }
+    ensures ok { IfOk result (Takes pool.old pool.new fronts.new at.old at.new stride) }
+    ensures passed { IfErr result (λ e. IsRefused pool.old at.old e.0) }
+    ensures err { OnErr result ((pool.new ≡ pool.old) × (fronts.new ≡ fronts.old) × (at.new ≡ at.old)) }
+{
+    match take_row(pool, at.table, stride) {
+        Some(row) => Ok(row),
+        None => add_list(pool, fronts, at, stride),
+    }
+}
+
+/// Adds a row with an empty list to the table where the pool holds it.
+fn add_list(
+    pool: &mut [u8],
+    fronts: &mut [u16],
+    at: &mut Places,
+    stride: u16,
+) -> Result<u16, PoolPassed>
+    requires blocks { AreBlocks pool.old fronts.old at.old }
+    requires full { free_rows pool.old at.old.table ≡ [] }
+    requires stride { 1 ≤ stride }
+    ensures ok { IfOk result (Takes pool.old pool.new fronts.new at.old at.new stride) }
+    ensures passed { IfErr result (λ e. IsRefused pool.old at.old e.0) }
+    ensures err { OnErr result ((pool.new ≡ pool.old) × (fronts.new ≡ fronts.old) × (at.new ≡ at.old)) }
+{
+    let row = get(pool, at.table, 0).count;
+    let had = ROW_BYTES * row as u64;
+    let room = round4(had + ROW_BYTES);
+    let footprint = at.footprint as u64 - round4(had) + room;
+    if footprint > POOL_BYTES {
+        return Err(PoolPassed(footprint));
+    }
+    make_room(pool, fronts, at, 0, room as u32);
+    add_row(pool, fronts, at, stride);
+    Ok(row)
+}
+
+/// Adds a row with an empty list to a table that has room for it.
+fn add_row(pool: &mut [u8], fronts: &[u16], at: &mut Places, stride: u16)
+    requires blocks { AreBlocks pool.old fronts.now at.old }
+    requires full { free_rows pool.old at.old.table ≡ [] }
+    requires stride { 1 ≤ stride }
+    requires room { IsRoom pool.old at.old.table at.old.base 0 at.old.table (rounded (10 * (row_count pool.old at.old.table + 1))) }
+    ensures { HasRow pool.old pool.new fronts.now at.old at.new stride }
+{
+    let rows = get(pool, at.table, 0).count;
+    let had = round4(ROW_BYTES * rows as u64) as u32;
+    let room = round4(ROW_BYTES * (rows as u64 + 1)) as u32;
+    write_row(pool, at.table, stride);
+    at.end = if at.table + had == at.end {
+        at.table + room
+    } else {
+        at.end.max(at.table + room)
+    };
+    at.footprint = at.footprint + room - had;
+}
+
+/// Writes a row with an empty list behind the last one.
+fn write_row(pool: &mut [u8], table: u32, stride: u16)
+    requires fits { table + 10 * (row_count pool.old table + 1) ≤ length pool.old }
+    requires some { 0 < row_count pool.old table }
+    requires small { row_count pool.old table < 65535 }
+    ensures { AddsRow pool.old pool.new table stride }
+{
+    let first = get(pool, table, 0);
+    let rows = first.count;
+    let count = rows + 1;
+    set(pool, table, 0, DopeRow { count, ..first });
+    set(pool, table, rows, DopeRow::empty(stride));
+}
+
+/// Lays out zeros, with a table of row 0 and free rows where blocks may begin.
+pub fn lay_out(pool: &mut [u8], fronts: &mut [u16], base: u32, rows: u16) -> Places
+    requires size { length pool.old ≡ pool_size }
+    requires fronts { length fronts.old ≡ words }
+    requires word { base % 4 ≡ 0 }
+    requires rows { 1 ≤ rows }
+    requires fits { base + rounded (10 * rows) ≤ pool_size }
+    ensures blocks { AreBlocks pool.new fronts.new result }
+    ensures base { result.base ≡ base }
+    ensures lists { lists_in pool.new result.table ≡ replicate rows None }
+    ensures zeros { (k : ℕ) → k < base → slice_index pool.new k ≡ 0 }
+{
+    free_all(pool, base, rows);
+    note_all(fronts, pool, base);
+    let end = base + round4(ROW_BYTES * rows as u64) as u32;
+    Places {
+        base,
+        table: base,
+        end,
+        footprint: end,
+    }
 }
 
 /// Makes all bytes 0, and a table of so many rows at this place, row 0 and free rows.
-pub fn lay_out(pool: &mut [u8], table: u32, rows: u16)
+fn free_all(pool: &mut [u8], table: u32, rows: u16)
     requires size { length pool.old ≡ pool_size }
+    requires word { table % 4 ≡ 0 }
     requires rows { 1 ≤ rows }
     requires fits { table + rounded (10 * rows) ≤ pool_size }
-    ensures dense { IsDense pool.new table }
+    ensures pool { IsPool pool.new table table }
+    ensures end { IsEnd pool.new table (table + rounded (10 * rows)) }
+    ensures total { total (blocks_in pool.new table) ≡ rounded (10 * rows) }
     ensures lists { lists_in pool.new table ≡ replicate rows None }
-    ensures end { end_of pool.new table ≡ table + rounded (10 * rows) }
     ensures zeros { (k : ℕ) → k < table → slice_index pool.new k ≡ 0 }
 {
     pool.fill(0);
@@ -61,198 +451,33 @@ pub fn lay_out(pool: &mut [u8], table: u32, rows: u16)
     }
 }
 
-/// Where a row's block starts, also where its list is empty.
-pub fn block_start(pool: &[u8], table: u32, row: u16) -> u32
-    requires row { table + 10 * row ≤ length pool.now }
-    requires fits { start_of pool.now table row ≤ pool_size }
-    ensures { result ≡ start_of pool.now table row }
-{
-    let mut start = table;
-    for above in 0..row {
-        start += block_bytes(get(pool, table, above));
-    }
-    start
-}
-
-/// Writes each row's place, from the number and the strides of the elements.
-pub fn place_rows(pool: &mut [u8], table: u32)
-    requires table { table + 10 * row_count pool.old table ≤ length pool.old }
-    requires fits { end_of pool.old table ≤ pool_size }
-    requires some { 0 < row_count pool.old table }
-    ensures rows { (r : ℕ) → r < row_count pool.old table → dope_row pool.new table r ≡ row_in_place pool.old table r }
-    ensures below { SameBelow pool.old pool.new table }
-    ensures above { SameFrom pool.old pool.new (table + 10 * row_count pool.old table) }
-{
-    let rows = get(pool, table, 0).count;
-    let mut start = table;
-    for row in 0..rows {
-        let found = get(pool, table, row);
-        set(pool, table, row, placed(found, start));
-        start += block_bytes(found);
-    }
-}
-
-/// The row with the place of its block, or the place of an empty list.
-fn placed(row: DopeRow, start: u32) -> DopeRow
-    requires { start ≤ pool_size }
-    ensures { result ≡ record row { place = if row.count == 0 then no_place else start } }
-{
-    if row.count == 0 {
-        DopeRow {
-            place: NO_PLACE,
-            ..row
-        }
-    } else {
-        DopeRow {
-            place: start as u16,
-            ..row
-        }
-    }
-}
-
-// Moves the bytes between two places to another place, through other bytes of which nothing is kept.
-fn shift(pool: &mut [u8], spare: &mut [u8], from: usize, end: usize, to: usize)
-    requires order { from ≤ end }
-    requires end { end ≤ length pool.old }
-    requires fits { to + (end - from) ≤ length pool.old }
-    requires spare { end - from ≤ length spare.old }
-    ensures below { SameBelow pool.old pool.new to }
-    ensures moved { (k : ℕ) → from + k < end → slice_index pool.new (to + k) ≡ slice_index pool.old (from + k) }
-{
-    let bytes = end - from;
-    spare[..bytes].copy_from_slice(&pool[from..end]);
-    pool[to..to + bytes].copy_from_slice(&spare[..bytes]);
-}
-
-/// Moves the bytes from the end of a block to `end` so that the block has room for another number of bytes. The first
-/// `keep` bytes of the block stay, and the others are 0.
-pub fn open_room(
-    pool: &mut [u8],
-    spare: &mut [u8],
-    block: Block,
-    keep: usize,
-    room: usize,
-    end: usize,
-)
-    requires spare { end ≤ length spare.old }
-    requires keep_old { keep ≤ block.bytes }
-    requires keep_new { keep ≤ room }
-    requires block { block.start + block.bytes ≤ end }
-    requires end { end ≤ length pool.old }
-    requires fits { end - block.bytes + room ≤ length pool.old }
-    ensures front { SameBelow pool.old pool.new (block.start + keep) }
-    ensures zeros { (k : ℕ) → keep ≤ k → k < room → slice_index pool.new (block.start + k) ≡ 0 }
-    ensures moved { (k : ℕ) → block.start + block.bytes + k < end
-        → slice_index pool.new (block.start + room + k) ≡ slice_index pool.old (block.start + block.bytes + k) }
-{
-    shift(
-        pool,
-        spare,
-        block.start + block.bytes,
-        end,
-        block.start + room,
-    );
-    pool[block.start + keep..block.start + room].fill(0);
-}
-
-/// Gives a row's list another number of bytes, where `end` is the end of the last block. The front of the list stays,
-/// new bytes are 0, and the blocks behind it move.
-pub fn resize_block(pool: &mut [u8], spare: &mut [u8], table: u32, row: u16, bytes: u32, end: u32)
-    requires spare { length spare.old ≡ pool_size }
-    requires dense { IsDense pool.old table }
-    requires above { 0 < row }
-    requires within { row < row_count pool.old table }
-    requires alive { (dope_row pool.old table row).stride ≢ 0 }
-    requires whole { bytes % (dope_row pool.old table row).stride ≡ 0 }
-    requires end { end ≡ end_of pool.old table }
-    requires fits { end + rounded bytes ≤ pool_size + row_block (dope_row pool.old table row) }
-    ensures dense { IsDense pool.new table }
-    ensures lists { lists_in pool.new table ≡ lists_with_length pool.old table row bytes }
-    ensures end { end_of pool.new table + row_block (dope_row pool.old table row) ≡ end + rounded bytes }
-    ensures below { SameBelow pool.old pool.new table }
-    ensures rows { row_count pool.new table ≡ row_count pool.old table }
-    ensures stride { (dope_row pool.new table row).stride ≡ (dope_row pool.old table row).stride }
-    ensures bytes { bytes_in_row (dope_row pool.new table row) ≡ bytes }
-{
-    let found = get(pool, table, row);
-    let had = byte_count(found);
-    let block = Block {
-        start: block_start(pool, table, row) as usize,
-        bytes: round4(had as u64) as usize,
-    };
-    let room = round4(bytes as u64) as usize;
-    open_room(
-        pool,
-        spare,
-        block,
-        had.min(bytes) as usize,
-        room,
-        end as usize,
-    );
-    let count = (bytes / found.stride as u32) as u16;
-    set(pool, table, row, DopeRow { count, ..found });
-    place_rows(pool, table);
-}
-
 /// The bytes of a row's list.
 pub fn row_bytes(pool: &[u8], table: u32, row: u16) -> &[u8]
-    requires dense { IsDense pool.now table }
-    requires within { row < row_count pool.now table }
+    requires row { table + 10 * (row + 1) ≤ length pool.now }
+    requires inside { 0 < bytes_in_row (dope_row pool.now table row) → (dope_row pool.now table row).place + bytes_in_row (dope_row pool.now table row) ≤ length pool.now }
     ensures { result.now ≡ take (bytes_in_row (dope_row pool.now table row)) (drop (dope_row pool.now table row).place pool.now) }
 {
     let found = get(pool, table, row);
-    if found.count == 0 {
-        &[]
-    } else {
-        window(pool, found.place as usize, byte_count(found) as usize)
+    let bytes = byte_count(found) as usize;
+    if bytes == 0 {
+        return &[];
     }
-}
-
-/// So many bytes of the pool, from this place on.
-fn window(pool: &[u8], at: usize, bytes: usize) -> &[u8]
-    requires { at + bytes ≤ length pool.now }
-    ensures { result.now ≡ take bytes (drop at pool.now) }
-{
+    let at = found.place as usize;
     &pool[at..at + bytes]
 }
 
 /// Stores bytes of a row's list from a place on.
 pub fn write_bytes(pool: &mut [u8], table: u32, row: u16, at: u32, bytes: &[u8])
-    requires dense { IsDense pool.old table }
-    requires above { 0 < row }
-    requires within { row < row_count pool.old table }
-    requires alive { (dope_row pool.old table row).stride ≢ 0 }
+    requires blocks { (fronts : List ℕ) × (p : Places) × AreBlocks pool.old fronts p × (table ≡ p.table) }
+    requires list { IsListRow pool.old table row 0 }
     requires at { at + length bytes.now ≤ bytes_in_row (dope_row pool.old table row) }
-    ensures dense { IsDense pool.new table }
-    ensures lists { lists_in pool.new table ≡ lists_with_bytes pool.old table row at bytes.now }
-    ensures end { end_of pool.new table ≡ end_of pool.old table }
-    ensures below { SameBelow pool.old pool.new table }
+    ensures { Stores pool.old pool.new table row at bytes.now }
 {
     if bytes.is_empty() {
         return;
     }
     let found = get(pool, table, row);
     put(pool, found.place as usize + at as usize, bytes);
-}
-
-/// Stores the bytes of a row's list in another one, from its first byte on.
-pub fn copy_bytes(pool: &mut [u8], spare: &mut [u8], table: u32, to: u16, from: u16)
-    requires spare { length spare.old ≡ pool_size }
-    requires dense { IsDense pool.old table }
-    requires above { 0 < to }
-    requires within { to < row_count pool.old table }
-    requires source { from < row_count pool.old table }
-    requires alive { (dope_row pool.old table to).stride ≢ 0 }
-    requires fits { bytes_in_row (dope_row pool.old table from) ≤ bytes_in_row (dope_row pool.old table to) }
-    ensures dense { IsDense pool.new table }
-    ensures lists { lists_in pool.new table ≡ lists_with_bytes pool.old table to 0 (take (bytes_in_row (dope_row pool.old table from)) (drop (dope_row pool.old table from).place pool.old)) }
-    ensures end { end_of pool.new table ≡ end_of pool.old table }
-    ensures below { SameBelow pool.old pool.new table }
-{
-    let bytes = row_bytes(pool, table, from);
-    let count = bytes.len();
-    spare[..count].copy_from_slice(bytes);
-    write_bytes(pool, table, to, 0, &spare[..count]);
 }
 
 /// Stores bytes from a place on.
@@ -263,104 +488,27 @@ pub fn put(pool: &mut [u8], at: usize, bytes: &[u8])
     pool[at..at + bytes.len()].copy_from_slice(bytes);
 }
 
-/// Frees a row and the bytes of its list, where `end` is the end of the last block.
-pub fn free_block(pool: &mut [u8], spare: &mut [u8], table: u32, row: u16, end: u32)
-    requires spare { length spare.old ≡ pool_size }
-    requires dense { IsDense pool.old table }
-    requires above { 0 < row }
-    requires within { row < row_count pool.old table }
-    requires alive { (dope_row pool.old table row).stride ≢ 0 }
-    requires end { end ≡ end_of pool.old table }
-    ensures dense { IsDense pool.new table }
-    ensures lists { lists_in pool.new table ≡ slice_set (lists_in pool.old table) row None }
-    ensures end { end_of pool.new table + row_block (dope_row pool.old table row) ≡ end }
-    ensures below { SameBelow pool.old pool.new table }
+/// Stores the bytes of a row's list in another one, from its first byte on.
+pub fn copy_bytes(pool: &mut [u8], table: u32, to: u16, from: u16)
+    requires blocks { (fronts : List ℕ) × (p : Places) × AreBlocks pool.old fronts p × (table ≡ p.table) }
+    requires list { IsListRow pool.old table to 0 }
+    requires source { IsListRow pool.old table from 0 }
+    requires fits { bytes_in_row (dope_row pool.old table from) ≤ bytes_in_row (dope_row pool.old table to) }
+    ensures { Stores pool.old pool.new table to 0 (take (bytes_in_row (dope_row pool.old table from)) (drop (dope_row pool.old table from).place pool.old)) }
 {
-    resize_block(pool, spare, table, row, 0, end);
-    free_row(pool, table, row);
-}
-
-/// Adds a row with an empty list to the table, where `end` is the end of the last block. The blocks move.
-pub fn add_row(pool: &mut [u8], spare: &mut [u8], table: u32, stride: u16, end: u32)
-    requires spare { length spare.old ≡ pool_size }
-    requires dense { IsDense pool.old table }
-    requires full { free_rows pool.old table ≡ [] }
-    requires stride { 1 ≤ stride }
-    requires end { end ≡ end_of pool.old table }
-    requires fits { end + rounded (10 * (row_count pool.old table + 1)) ≤ pool_size + rounded (10 * row_count pool.old table) }
-    ensures dense { IsDense pool.new table }
-    ensures lists { lists_in pool.new table ≡ lists_in pool.old table ++ empty_list stride ∷ [] }
-    ensures end { end_of pool.new table + rounded (10 * row_count pool.old table) ≡ end + rounded (10 * (row_count pool.old table + 1)) }
-    ensures below { SameBelow pool.old pool.new table }
-{
-    let first = get(pool, table, 0);
-    let rows = first.count;
-    let had = ROW_BYTES as usize * rows as usize;
-    let block = Block {
-        start: table as usize,
-        bytes: round4(had as u64) as usize,
-    };
-    let room = round4(had as u64 + ROW_BYTES) as usize;
-    open_room(pool, spare, block, had, room, end as usize);
-    let count = rows + 1;
-    set(pool, table, 0, DopeRow { count, ..first });
-    set(pool, table, rows, DopeRow::empty(stride));
-    place_rows(pool, table);
-}
-
-/// A row that was taken, and where the last block then ends.
-#[derive(Clone, Copy)]
-pub struct Taken {
-    pub row: u16,
-    pub end: u32,
-}
-
-/// Takes a free row for an empty list, or adds one to the table, where `end` is the end of the last block.
-pub fn new_list(
-    pool: &mut [u8],
-    spare: &mut [u8],
-    table: u32,
-    stride: u16,
-    end: u32,
-) -> Result<Taken, PoolPassed>
-    requires spare { length spare.old ≡ pool_size }
-    requires dense { IsDense pool.old table }
-    requires stride { 1 ≤ stride }
-    requires end { end ≡ end_of pool.old table }
-    ensures ok { IfOk result (λ taken. Takes pool.old pool.new table stride taken.row taken.end) }
-    ensures full { IfErr result (λ e. IsFull pool.old table end e.0) }
-    ensures err { OnErr result (pool.new ≡ pool.old) }
-{
-    match take_row(pool, table, stride) {
-        Some(row) => Ok(Taken { row, end }),
-        None => add_list(pool, spare, table, stride, end),
+    let source = get(pool, table, from);
+    let bytes = byte_count(source) as usize;
+    if bytes > 0 {
+        let place = get(pool, table, to).place as usize;
+        copy_part(pool, source.place as usize, bytes, place);
     }
 }
 
-/// Adds a row with an empty list where the pool holds it.
-fn add_list(
-    pool: &mut [u8],
-    spare: &mut [u8],
-    table: u32,
-    stride: u16,
-    end: u32,
-) -> Result<Taken, PoolPassed>
-    requires spare { length spare.old ≡ pool_size }
-    requires dense { IsDense pool.old table }
-    requires full { free_rows pool.old table ≡ [] }
-    requires stride { 1 ≤ stride }
-    requires end { end ≡ end_of pool.old table }
-    ensures ok { IfOk result (λ taken. Takes pool.old pool.new table stride taken.row taken.end) }
-    ensures full { IfErr result (λ e. IsFull pool.old table end e.0) }
-    ensures err { OnErr result (pool.new ≡ pool.old) }
+/// Stores so many bytes from one place at another.
+fn copy_part(pool: &mut [u8], from: usize, bytes: usize, to: usize)
+    requires from { from + bytes ≤ length pool.old }
+    requires to { to + bytes ≤ length pool.old }
+    ensures { pool.new ≡ put_at to (take bytes (drop from pool.old)) pool.old }
 {
-    let row = get(pool, table, 0).count;
-    let had = ROW_BYTES * row as u64;
-    let footprint = end as u64 - round4(had) + round4(had + ROW_BYTES);
-    if footprint > POOL_BYTES {
-        return Err(PoolPassed(footprint));
-    }
-    add_row(pool, spare, table, stride, end);
-    let end = footprint as u32;
-    Ok(Taken { row, end })
+    pool.copy_within(from..from + bytes, to);
 }

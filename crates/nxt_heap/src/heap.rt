@@ -2,16 +2,21 @@ ghost use Rattle.std.specs.Prelude.{◌≡◌, ◌+◌, ◌*◌, ◌++◌, ◌�
 ghost use Rattle.nxt_facts.specs.PutAt.{put_at};
 ghost use Rattle.nxt_types.specs.Pool.{round4 as rounded, pool_size};
 ghost use Rattle.nxt_heap.specs.Dumps.{HoldHeap};
-ghost use Rattle.nxt_heap.specs.Lists.{IsAlive, list_at, stride_at, bytes_at, table_of, footprint, Passes, IsFree, with_free, with_free_row, empty_list, zero_heap, with_list, with_length, with_bytes, with_these};
-ghost use Rattle.nxt_heap.specs.Inside.Pool.{Shows, state_of, IsHeap};
+ghost use Rattle.nxt_heap.specs.Lists.{IsAlive, list_at, stride_at, bytes_at, footprint, Passes, IsFree, with_free, with_free_row, empty_list, zero_heap, base_of, with_list, with_length, with_bytes, with_these};
+ghost use Rattle.nxt_compact.specs.Pools.{blocks_in, Compacts};
+ghost use Rattle.nxt_blocks.specs.Blocks.{unsettled as unsettled_in};
+ghost use Rattle.nxt_model.specs.Dump.{greatest_end};
+ghost use Rattle.nxt_heap.specs.Inside.Pool.{Shows};
 
 use crate::blocks::{
-    block_bytes, byte_count, copy_bytes, free_block, lay_out, new_list, put, resize_block,
-    row_bytes, write_bytes,
+    Places, byte_count, copy_bytes, free_list, lay_out, new_list, put, resize_list, row_bytes,
+    settle, write_bytes,
 };
+use crate::fronts::{NO_ROW, WORDS};
 use crate::passed::PoolPassed;
+use nxt_compact::{block_bytes, unsettled};
 use nxt_rows::get;
-use nxt_types::pool::{POOL_BYTES, ROW_BYTES, round4};
+use nxt_types::pool::{POOL_BYTES, round4};
 use nxt_types::{Bytes, NoMemory};
 use std::alloc::Global;
 use std::marker::Model;
@@ -19,27 +24,26 @@ use std::marker::Model;
 /// Static bytes and byte lists by row, in a pool of 32,768 bytes. Contracts see both: the lists, and the pool's bytes with
 /// the place of the table.
 ///
-/// The static bytes stand first, then the dope table, then a block for each list, in the order of the rows and without
-/// gaps. A block is a multiple of 4 bytes long.
+/// The static bytes stand first. Above them stand the dope table and a block for each list, in any order and with gaps
+/// between them. A block is a multiple of 4 bytes long, and begins at one. For each word of the pool, `fronts` has the row
+/// whose block begins there.
 #[derive(Drop)]
 pub struct Heap {
     pool: Vec<u8>,
-    spare: Vec<u8>,
+    fronts: Vec<u16>,
     static_size: u32,
-    end: u32,
+    places: Places,
 }
 
 impl Model for Heap {
     ghost use Rattle.nxt_heap.specs.Lists.{HeapViews};
-    ghost use Rattle.std.specs.Prelude.{◌≡◌, length};
-    ghost use Rattle.nxt_types.specs.Pool.{pool_size};
     ghost use Rattle.nxt_heap.specs.Inside.Pool.{views_of, IsHeap};
 
     ghost Value = { HeapViews };
 
-    ghost view = { λ a. views_of a.static_size a.pool.items };
+    ghost view = { λ a. views_of a.static_size (record { bytes = a.pool.items; table = a.places.table }) };
 
-    ghost invariant = { λ a. IsHeap a.static_size a.end a.pool.items × (length a.spare.items ≡ pool_size) };
+    ghost invariant = { λ a. IsHeap a.static_size a.places a.pool.items a.fronts.items };
 }
 
 impl Heap {
@@ -50,13 +54,14 @@ impl Heap {
         ensures { IfOk result (λ heap. heap.lists ≡ zero_heap static_size rows) }
     {
         let mut pool = vec![in alloc; 0; POOL_BYTES as usize]?;
-        let spare = vec![in alloc; 0; POOL_BYTES as usize]?;
-        let end = start(&mut pool, static_size, rows);
+        let mut fronts = vec![in alloc; NO_ROW; WORDS]?;
+        let base = round4(static_size as u64) as u32;
+        let places = lay_out(&mut pool, &mut fronts, base, rows);
         Ok(Heap {
             pool,
-            spare,
+            fronts,
             static_size,
-            end,
+            places,
         })
     }
 
@@ -65,8 +70,9 @@ impl Heap {
         ensures { self.new ≡ other.now }
     {
         self.pool.copy_from_slice(&other.pool);
+        self.fronts.copy_from_slice(&other.fronts);
         self.static_size = other.static_size;
-        self.end = other.end;
+        self.places = other.places;
     }
 
     /// The static bytes.
@@ -94,19 +100,7 @@ impl Heap {
         ensures passed { IfErr result (λ e. Passes (with_free_row self.old.lists) e.0) }
         ensures err { OnErr result (self.new ≡ self.old) }
     {
-        match new_list(
-            &mut self.pool,
-            &mut self.spare,
-            table_above(self.static_size),
-            stride,
-            self.end,
-        ) {
-            Ok(taken) => {
-                self.end = taken.end;
-                Ok(taken.row)
-            }
-            Err(passed) => Err(passed),
-        }
+        new_list(&mut self.pool, &mut self.fronts, &mut self.places, stride)
     }
 
     /// Gives a list another number of bytes, a multiple of its stride. The front of the list stays, and new bytes are 0.
@@ -118,18 +112,21 @@ impl Heap {
         ensures passed { IfErr result (λ e. Passes (with_length self.old.lists row bytes) e.0) }
         ensures err { OnErr result (self.new ≡ self.old) }
     {
-        let table = table_above(self.static_size);
-        let found = get(&self.pool, table, row);
+        let found = get(&self.pool, self.places.table, row);
         if byte_count(found) == bytes {
             return Ok(());
         }
-        let had = block_bytes(found);
-        let footprint = (self.end - had) as u64 + round4(bytes as u64);
+        let footprint = self.places.footprint as u64 - block_bytes(found) + round4(bytes as u64);
         if footprint > POOL_BYTES {
             return Err(PoolPassed(footprint));
         }
-        resize_block(&mut self.pool, &mut self.spare, table, row, bytes, self.end);
-        self.end = footprint as u32;
+        resize_list(
+            &mut self.pool,
+            &mut self.fronts,
+            &mut self.places,
+            row,
+            bytes,
+        );
         Ok(())
     }
 
@@ -186,7 +183,7 @@ impl Heap {
         requires { IsAlive self.now.lists row }
         ensures { result ≡ length (bytes_at self.now.lists row) }
     {
-        byte_count(get(&self.pool, table_above(self.static_size), row))
+        byte_count(get(&self.pool, self.places.table, row))
     }
 
     // Stores the bytes of a list in another one that is as long.
@@ -196,13 +193,7 @@ impl Heap {
         requires long { length (bytes_at self.old.lists from) ≤ length (bytes_at self.old.lists to) }
         ensures { self.new.lists ≡ with_bytes self.old.lists to 0 (bytes_at self.old.lists from) }
     {
-        copy_bytes(
-            &mut self.pool,
-            &mut self.spare,
-            table_above(self.static_size),
-            to,
-            from,
-        );
+        copy_bytes(&mut self.pool, self.places.table, to, from);
     }
 
     /// Frees a list and its row.
@@ -210,10 +201,7 @@ impl Heap {
         requires { IsAlive self.old.lists row }
         ensures { self.new.lists ≡ with_list self.old.lists row None }
     {
-        let table = table_above(self.static_size);
-        let had = block_bytes(get(&self.pool, table, row));
-        free_block(&mut self.pool, &mut self.spare, table, row, self.end);
-        self.end -= had;
+        free_list(&mut self.pool, &mut self.fronts, &mut self.places, row);
     }
 
     /// How many bytes the elements of a row's list are apart; `None` where the row has no list.
@@ -222,7 +210,7 @@ impl Heap {
         ensures stride { IfSome result (λ stride. stride ≡ stride_at self.now.lists row) }
         ensures none { result ≡ None → list_at self.now.lists row ≡ None }
     {
-        let table = table_above(self.static_size);
+        let table = self.places.table;
         if row == 0 || row >= get(&self.pool, table, 0).count {
             return None;
         }
@@ -235,7 +223,7 @@ impl Heap {
         requires { IsAlive self.now.lists row }
         ensures { result.now ≡ bytes_at self.now.lists row }
     {
-        row_bytes(&self.pool, table_above(self.static_size), row)
+        row_bytes(&self.pool, self.places.table, row)
     }
 
     /// Stores bytes of a list from a place on.
@@ -244,29 +232,23 @@ impl Heap {
         requires at { at + length bytes.now ≤ length (bytes_at self.old.lists row) }
         ensures { self.new.lists ≡ with_bytes self.old.lists row at bytes.now }
     {
-        write_bytes(
-            &mut self.pool,
-            table_above(self.static_size),
-            row,
-            at,
-            bytes,
-        );
+        write_bytes(&mut self.pool, self.places.table, row, at, bytes);
     }
 
-    /// Moves up to `k` blocks down to the end of the block before them, and gives the number of blocks that moved. No block
-    /// has a gap below it.
-    pub fn compact(&mut self, _k: u16) -> u16
-        ensures settled { result ≡ 0 }
-        ensures same { self.new ≡ self.old }
+    /// Moves up to `k` of the lowest blocks that have a gap below down to the end of the block before, and gives the number
+    /// of blocks that moved.
+    pub fn compact(&mut self, k: u16) -> u16
+        ensures lists { self.new.lists ≡ self.old.lists }
+        ensures settles { Compacts (base_of self.old.lists) k self.old.pool.bytes self.new.pool.bytes self.old.pool.table self.new.pool.table result }
     {
-        0
+        settle(&mut self.pool, &mut self.fronts, &mut self.places, k)
     }
 
     /// How many blocks have a gap somewhere below them.
     pub fn unsettled(&self) -> u16
-        ensures { result ≡ 0 }
+        ensures { result ≡ unsettled_in (base_of self.now.lists) (blocks_in self.now.pool.bytes self.now.pool.table) }
     {
-        0
+        unsettled(&self.pool, self.places.table, self.places.base)
     }
 
     /// The pool from its first byte to the end of the last block. Its rows read as the lists.
@@ -274,10 +256,10 @@ impl Heap {
         ensures shows { IfOk result (λ bytes. Shows bytes self.now.pool.table self.now.lists) }
         ensures holds { IfOk result (λ bytes. HoldHeap bytes self.now.pool.table self.now.lists) }
         ensures front { IfOk result (λ bytes. bytes ≡ take (length bytes) self.now.pool.bytes) }
-        ensures length { IfOk result (λ bytes. length bytes ≡ footprint self.now.lists) }
+        ensures length { IfOk result (λ bytes. length bytes ≡ greatest_end (blocks_in self.now.pool.bytes self.now.pool.table)) }
     {
         let mut bytes = Bytes::new(alloc);
-        bytes.append(&self.pool[..self.end as usize])?;
+        bytes.append(&self.pool[..self.places.end as usize])?;
         Ok(bytes)
     }
 
@@ -286,7 +268,7 @@ impl Heap {
         ensures whole { result ≡ footprint self.now.lists }
         ensures fits { result ≤ pool_size }
     {
-        self.end
+        self.places.footprint
     }
 
     /// How many rows the table has.
@@ -294,42 +276,20 @@ impl Heap {
         ensures rows { result ≡ length self.now.lists.by_row }
         ensures some { 1 ≤ result }
     {
-        get(&self.pool, table_above(self.static_size), 0).count
+        get(&self.pool, self.places.table, 0).count
     }
 
     /// What a heap holds is sound: row 0 is the table's own, and no list. The call does nothing.
     pub fn is_sound(&self)
         ensures { list_at self.now.lists 0 ≡ None }
     {
-        let _end = self.end;
+        let _end = self.places.end;
     }
 
     /// Where the table stands in the pool, in bytes.
     pub fn table_place(&self) -> u32
-        ensures place { result ≡ self.now.pool.table }
-        ensures above { result ≡ table_of self.now.lists }
+        ensures { result ≡ self.now.pool.table }
     {
-        table_above(self.static_size)
+        self.places.table
     }
-}
-
-/// Where the table stands above so many static bytes.
-fn table_above(static_size: u32) -> u32
-    requires { rounded static_size ≤ pool_size }
-    ensures { result ≡ rounded static_size }
-{
-    round4(static_size as u64) as u32
-}
-
-/// Lays out the pool, and gives the end of the table.
-fn start(pool: &mut [u8], static_size: u32, rows: u16) -> u32
-    requires size { length pool.old ≡ pool_size }
-    requires rows { 1 ≤ rows }
-    requires fits { rounded static_size + rounded (10 * rows) ≤ pool_size }
-    ensures heap { IsHeap static_size result pool.new }
-    ensures state { state_of static_size pool.new ≡ zero_heap static_size rows }
-{
-    let table = table_above(static_size);
-    lay_out(pool, table, rows);
-    table + round4(ROW_BYTES * rows as u64) as u32
 }

@@ -3,6 +3,7 @@
 #![tactic(auto)]
 
 mod blocks;
+mod fronts;
 pub mod heap;
 pub mod passed;
 

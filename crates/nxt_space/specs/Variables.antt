@@ -102,6 +102,10 @@ abbrev pub Becomes : SpaceViews → Variables → Result Unit PoolPassed → Spa
 Becomes old next (Ok x) new = (footprint_of next ≤ pool_size) × (new.vars ≡ next)
 Becomes old next (Err e) new = (pool_size < footprint_of next) × (e.0 ≡ footprint_of next) × (new ≡ old)
 
+-- no block of the pool begins below the end of the static bytes
+abbrev pub base_of : Variables → ℕ
+base_of s = round4 s.static_size
+
 -- the bytes of a pool with its table at this place read as the variables, in which these lists stand
 abbrev pub ReadsAsPool : Variables → ℕ → List ℕ → Type 0
 ReadsAsPool s table bytes =

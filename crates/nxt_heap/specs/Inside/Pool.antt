@@ -1,22 +1,22 @@
--- The inside of the heap: a pool with the static bytes first, then the table of rows, then a block for each list, in the
--- order of the rows and without gaps.
-use Rattle.std.specs.Prelude.{◌≡◌, ℕ, zero, suc, ◌+◌, ◌*◌, ◌<◌, ◌≤◌, false, List, length, take, drop, map, nat_eq, slice_set, Option, Some, None, if◌then◌else◌, ◌==◌}
-use Rattle.std.specs.List.{list_any, range_with_len, SameBelow}
+-- The inside of the heap: a pool with the static bytes first, and above them a table of rows and a block for each list that
+-- has bytes, in any order and with gaps between them.
+use Rattle.std.specs.Prelude.{◌≡◌, ◌≢◌, ℕ, zero, suc, ◌+◌, ◌*◌, ◌/◌, ◌%◌, ◌<◌, ◌≤◌, ◌⊎◌, false, List, [], ◌∷◌, ◌++◌, length, take, drop, map, nat_eq, slice_set, slice_index, Option, Some, None, if◌then◌else◌, ◌==◌}
+use Rattle.std.specs.List.{list_any, range_with_len}
 use Rattle.nxt_facts.specs.PutAt.{put_at}
 use Rattle.nxt_types.specs.Pool.{round4, pool_size}
-use Rattle.nxt_rows.specs.Rows.{dope_row, row_count, free_rows, IsFreeChain, no_place}
+use Rattle.nxt_blocks.specs.Blocks.{total}
+use Rattle.nxt_blocks.specs.Standing.{IsApart}
+use Rattle.nxt_rows.specs.Rows.{dope_row, row_count, free_rows, IsFreeChain, no_place, empty_row_of}
 use Rattle.nxt_rows.specs.declared.DopeRow.{DopeRow}
-use Rattle.nxt_heap.specs.Lists.{ByteList, Lists, HeapViews, of_length, IsFree, with_free, any_free, empty_list}
+use Rattle.nxt_compact.specs.Pools.{block_bytes, block_of, blocks_in, IsFull, IsSound, Moves}
+use Rattle.nxt_heap.specs.declared.blocks.Places.{Places}
+use Rattle.nxt_heap.specs.Lists.{ByteList, Lists, Pool, HeapViews, of_length, with_length, IsFree, with_free, any_free, empty_list}
 
 -- ---- what the pool holds
 
 -- the bytes of a row's list
 abbrev pub row_bytes : DopeRow → ℕ
 row_bytes row = row.count * row.stride
-
--- the bytes that a row's list takes, and for row 0 those of the table
-unfoldable pub row_block : DopeRow → ℕ
-row_block row = round4 (row_bytes row)
 
 -- a free row has the stride 0
 abbrev pub list_of_row : List ℕ → DopeRow → Option ByteList
@@ -30,40 +30,17 @@ list_in pool table (suc r) = list_of_row pool (dope_row pool table (suc r))
 unfoldable pub lists_in : List ℕ → ℕ → List (Option ByteList)
 lists_in pool table = map (list_in pool table) (range_with_len 0 (row_count pool table))
 
-abbrev pub state_of : ℕ → List ℕ → Lists
-state_of static_size pool = record { static_bytes = take static_size pool; by_row = lists_in pool (round4 static_size) }
+abbrev pub state_of : ℕ → Pool → Lists
+state_of static_size p = record { static_bytes = take static_size p.bytes; by_row = lists_in p.bytes p.table }
 
 -- both views of a pool behind so many static bytes
-abbrev pub views_of : ℕ → List ℕ → HeapViews
-views_of static_size pool =
-    record { lists = state_of static_size pool; pool = record { bytes = pool; table = round4 static_size } }
+abbrev pub views_of : ℕ → Pool → HeapViews
+views_of static_size p = record { lists = state_of static_size p; pool = p }
 
 -- bytes of a pool with its table at this place read as the static bytes and the lists
 pub record Shows (bytes : List ℕ) (table : ℕ) (h : Lists) : Type 0 where
   pub static_bytes : take (length h.static_bytes) bytes ≡ h.static_bytes
   pub by_row : lists_in bytes table ≡ h.by_row
-
--- ---- where it stands
-
--- the bytes of the table and of the lists in the rows before r
-unfoldable pub blocks_before : List ℕ → ℕ → ℕ → ℕ
-blocks_before pool table zero = 0
-blocks_before pool table (suc r) = blocks_before pool table r + row_block (dope_row pool table r)
-
--- where the block of row r starts
-abbrev pub start_of : List ℕ → ℕ → ℕ → ℕ
-start_of pool table r = table + blocks_before pool table r
-
--- the end of the last block
-abbrev pub end_of : List ℕ → ℕ → ℕ
-end_of pool table = start_of pool table (row_count pool table)
-
-abbrev pub place_for : List ℕ → ℕ → ℕ → ℕ
-place_for pool table r = if (dope_row pool table r).count == 0 then no_place else start_of pool table r
-
--- the row with the place of its block
-abbrev pub row_in_place : List ℕ → ℕ → ℕ → DopeRow
-row_in_place pool table r = record (dope_row pool table r) { place = place_for pool table r }
 
 -- the lists with that number of bytes in this row
 abbrev pub lists_with_length : List ℕ → ℕ → ℕ → ℕ → List (Option ByteList)
@@ -83,31 +60,197 @@ lists_with_bytes pool table row at bytes =
       bytes = put_at at bytes (take (row_bytes found) (drop found.place pool));
     }))
 
--- rows lie without gaps from the table's place on, and the free rows are the chain
-pub record IsDense (pool : List ℕ) (table : ℕ) : Type 0 where
+-- ---- where it stands
+
+-- the blocks share no byte and begin at words, the free rows are the chain and have no elements, and an empty list has no place
+pub record IsPool (pool : List ℕ) (table base : ℕ) : Type 0 where
   pub size : length pool ≡ pool_size
-  pub fits : end_of pool table ≤ pool_size
-  pub some : 0 < row_count pool table
-  pub first : (dope_row pool table 0).stride ≡ 10
-  pub placed : (r : ℕ) → r < row_count pool table → (dope_row pool table r).place ≡ place_for pool table r
+  pub sound : IsSound pool table base
+  pub words : (r : ℕ) → IsFull pool table r → (dope_row pool table r).place % 4 ≡ 0
+  pub empty : (r : ℕ) → 0 < r → r < row_count pool table → (dope_row pool table r).count ≡ 0 → (dope_row pool table r).place ≡ no_place
+  pub bare : (r : ℕ) → 0 < r → r < row_count pool table → (dope_row pool table r).stride ≡ 0 → (dope_row pool table r).count ≡ 0
   pub chain : IsFreeChain pool table
   pub free : (r : ℕ) → 0 < r → r < row_count pool table → list_any (nat_eq r) (free_rows pool table) ≡ ((dope_row pool table r).stride == 0)
 
--- the fields of a heap fit one another
-pub record IsHeap (static_size end : ℕ) (pool : List ℕ) : Type 0 where
-  pub dense : IsDense pool (round4 static_size)
-  pub end_is : end ≡ end_of pool (round4 static_size)
+-- where the last block ends
+pub record IsEnd (pool : List ℕ) (table end : ℕ) : Type 0 where
+  pub most : (r : ℕ) → IsFull pool table r → (dope_row pool table r).place + block_bytes (dope_row pool table r) ≤ end
+  pub is : (r : ℕ) × IsFull pool table r × ((dope_row pool table r).place + block_bytes (dope_row pool table r) ≡ end)
+
+-- ---- fronts
+
+-- the words of the pool
+abbrev pub words : ℕ
+words = 8192
+
+-- the number that no row has
+abbrev pub no_row : ℕ
+no_row = 0xFFFF
+
+-- for each word the row whose block begins there
+pub record AreFronts (pool : List ℕ) (table : ℕ) (fronts : List ℕ) : Type 0 where
+  pub size : length fronts ≡ words
+  pub told : (r : ℕ) → IsFull pool table r → slice_index fronts ((dope_row pool table r).place / 4) ≡ r
+  pub real : (w : ℕ) → w < words → slice_index fronts w ≢ no_row → IsFull pool table (slice_index fronts w) × ((dope_row pool table (slice_index fronts w)).place ≡ 4 * w)
+
+-- the same for all rows but one, which has no front
+pub record AreOtherFronts (pool : List ℕ) (table : ℕ) (fronts : List ℕ) (row : ℕ) : Type 0 where
+  pub size : length fronts ≡ words
+  pub told : (r : ℕ) → IsFull pool table r → r ≢ row → slice_index fronts ((dope_row pool table r).place / 4) ≡ r
+  pub real : (w : ℕ) → w < words → slice_index fronts w ≢ no_row → (slice_index fronts w ≢ row) × IsFull pool table (slice_index fronts w) × ((dope_row pool table (slice_index fronts w)).place ≡ 4 * w)
+
+-- the same for the rows before one
+pub record AreFrontsBefore (pool : List ℕ) (table row : ℕ) (fronts : List ℕ) : Type 0 where
+  pub size : length fronts ≡ words
+  pub told : (r : ℕ) → r < row → IsFull pool table r → slice_index fronts ((dope_row pool table r).place / 4) ≡ r
+  pub real : (w : ℕ) → w < words → slice_index fronts w ≢ no_row → (slice_index fronts w < row) × IsFull pool table (slice_index fronts w) × ((dope_row pool table (slice_index fronts w)).place ≡ 4 * w)
+
+-- the first row with a front between two words
+pub record IsFrontIn (fronts : List ℕ) (from to row : ℕ) : Type 0 where
+  pub word : ℕ
+  pub low : from ≤ word
+  pub high : word < to
+  pub is : slice_index fronts word ≡ row
+  pub some : row ≢ no_row
+  pub none : (w : ℕ) → from ≤ w → w < word → slice_index fronts w ≡ no_row
+
+-- where the last of the blocks ends that begin below a place
+pub record IsEndBelow (pool : List ℕ) (table below end : ℕ) : Type 0 where
+  pub most : (r : ℕ) → IsFull pool table r → (dope_row pool table r).place < below → (dope_row pool table r).place + block_bytes (dope_row pool table r) ≤ end
+  pub is : (r : ℕ) × IsFull pool table r × ((dope_row pool table r).place < below) × ((dope_row pool table r).place + block_bytes (dope_row pool table r) ≡ end)
+
+-- ---- room
+
+-- the bytes from a place on lie in the pool and in no block
+pub record IsHole (pool : List ℕ) (table at bytes : ℕ) : Type 0 where
+  pub within : at + bytes ≤ length pool
+  pub others : (q : ℕ) → IsFull pool table q → IsApart (record { place = at; bytes = bytes }) (block_of pool table q)
+
+-- no block reaches over a place
+abbrev pub IsClean : List ℕ → ℕ → ℕ → Type 0
+IsClean pool table at = (q : ℕ) → IsFull pool table q → (dope_row pool table q).place < at → (dope_row pool table q).place + block_bytes (dope_row pool table q) ≤ at
+
+-- the lowest hole that holds so many bytes, of those at a place and above it
+pub record IsFit (pool : List ℕ) (table start bytes at : ℕ) : Type 0 where
+  pub low : start ≤ at
+  pub word : at % 4 ≡ 0
+  pub hole : IsHole pool table at bytes
+  pub first : (p : ℕ) → start ≤ p → IsHole pool table p bytes → at ≤ p
+
+-- the bytes from a place on lie in the pool and in no block but that of the row, if it has one
+pub record IsRoom (pool : List ℕ) (table base row at bytes : ℕ) : Type 0 where
+  pub above : base ≤ at
+  pub word : at % 4 ≡ 0
+  pub within : at + bytes ≤ length pool
+  pub others : (q : ℕ) → IsFull pool table q → q ≢ row → IsApart (record { place = at; bytes = bytes }) (block_of pool table q)
+  pub own : IsFull pool table row → (dope_row pool table row).place ≡ at
+
+-- ---- the whole
+
+-- a row's block can have so many bytes
+pub record MayHave (pool : List ℕ) (table base row bytes : ℕ) : Type 0 where
+  pub within : row < row_count pool table
+  pub word : bytes % 4 ≡ 0
+  pub some : 0 < bytes
+  pub fits : base + total (blocks_in pool table) + bytes ≤ pool_size + block_bytes (dope_row pool table row)
+
+-- the places fit the pool and its fronts
+pub record AreBlocks (pool fronts : List ℕ) (p : Places) : Type 0 where
+  pub is_pool : IsPool pool p.table p.base
+  pub word : p.base % 4 ≡ 0
+  pub are_fronts : AreFronts pool p.table fronts
+  pub end_is : IsEnd pool p.table p.end
+  pub footprint_is : p.footprint ≡ p.base + total (blocks_in pool p.table)
+
+-- a row's block stood at another place, where the last of all blocks ended at the end that is noted
+pub record HasMoved (pool : List ℕ) (p : Places) (row from : ℕ) : Type 0 where
+  pub full : IsFull pool p.table row
+  pub others : (q : ℕ) → IsFull pool p.table q → q ≢ row → (dope_row pool p.table q).place + block_bytes (dope_row pool p.table q) ≤ p.end
+  pub apart : (q : ℕ) → IsFull pool p.table q → q ≢ row → IsApart (record { place = from; bytes = block_bytes (dope_row pool p.table row) }) (block_of pool p.table q)
+  pub most : from + block_bytes (dope_row pool p.table row) ≤ p.end
+  pub inside : p.end ≤ pool_size
+  pub was : (from + block_bytes (dope_row pool p.table row) ≡ p.end)
+      ⊎ ((q : ℕ) × IsFull pool p.table q × ((dope_row pool p.table q).place + block_bytes (dope_row pool p.table q) ≡ p.end))
+
+-- the blocks moved, and nothing else has changed
+pub record BlocksMove (old fronts_old new fronts_new : List ℕ) (p q : Places) (to : ℕ → ℕ) : Type 0 where
+  pub blocks : AreBlocks new fronts_new q
+  pub moves : Moves p.base to old new p.table q.table
+  pub base : q.base ≡ p.base
+  pub footprint : q.footprint ≡ p.footprint
+
+-- ---- one list
+
+-- a living row's list may have so many bytes
+pub record IsListRow (pool : List ℕ) (table row bytes : ℕ) : Type 0 where
+  pub above : 0 < row
+  pub within : row < row_count pool table
+  pub alive : (dope_row pool table row).stride ≢ 0
+  pub whole : bytes % (dope_row pool table row).stride ≡ 0
+
+-- the row has another place and count, and no other bytes have changed but those from a place on
+pub record Relists (old new : List ℕ) (table row place count room : ℕ) : Type 0 where
+  pub size : length new ≡ length old
+  pub own : dope_row new table row ≡ record (dope_row old table row) { place = place; count = count }
+  pub others : (q : ℕ) → q < row_count old table → q ≢ row → dope_row new table q ≡ dope_row old table q
+  pub outside : (k : ℕ) → (k < place) ⊎ (place + room ≤ k) → (k < table + 10 * row) ⊎ (table + 10 * row + 10 ≤ k) → slice_index new k ≡ slice_index old k
+
+-- the row's list with so many bytes
+abbrev pub with_length_in : List (Option ByteList) → ℕ → ℕ → List (Option ByteList)
+with_length_in lists row bytes = (with_length (record { static_bytes = []; by_row = lists }) row bytes).by_row
+
+-- the row's list has so many bytes, and the others are as they were
+pub record HasLength (old new fronts : List ℕ) (p q : Places) (row bytes : ℕ) : Type 0 where
+  pub blocks : AreBlocks new fronts q
+  pub base : q.base ≡ p.base
+  pub lists : lists_in new q.table ≡ with_length_in (lists_in old p.table) row bytes
+  pub below : (k : ℕ) → k < p.base → slice_index new k ≡ slice_index old k
+  pub footprint : q.footprint + block_bytes (dope_row old p.table row) ≡ p.footprint + round4 bytes
+
+-- the table has a row more, with an empty list
+pub record AddsRow (old new : List ℕ) (table stride : ℕ) : Type 0 where
+  pub size : length new ≡ length old
+  pub first : dope_row new table 0 ≡ record (dope_row old table 0) { count = row_count old table + 1 }
+  pub added : dope_row new table (row_count old table) ≡ empty_row_of stride
+  pub others : (q : ℕ) → 0 < q → q < row_count old table → dope_row new table q ≡ dope_row old table q
+  pub outside : (k : ℕ) → (k < table) ⊎ (table + 10 * (row_count old table + 1) ≤ k) → slice_index new k ≡ slice_index old k
+
+-- the table has a row more, and the lists are as they were
+pub record HasRow (old new fronts : List ℕ) (p q : Places) (stride : ℕ) : Type 0 where
+  pub blocks : AreBlocks new fronts q
+  pub base : q.base ≡ p.base
+  pub lists : lists_in new q.table ≡ lists_in old p.table ++ empty_list stride ∷ []
+  pub below : (k : ℕ) → k < p.base → slice_index new k ≡ slice_index old k
+  pub footprint : q.footprint + round4 (10 * row_count old p.table) ≡ p.footprint + round4 (10 * (row_count old p.table + 1))
+
+-- the row's list is freed
+pub record Frees (old new fronts : List ℕ) (p q : Places) (row : ℕ) : Type 0 where
+  pub blocks : AreBlocks new fronts q
+  pub base : q.base ≡ p.base
+  pub lists : lists_in new q.table ≡ slice_set (lists_in old p.table) row None
+  pub below : (k : ℕ) → k < p.base → slice_index new k ≡ slice_index old k
 
 -- a row is taken for an empty list
-pub record Takes (old new : List ℕ) (table stride row end : ℕ) : Type 0 where
-  pub dense : IsDense new table
-  pub end_is : end ≡ end_of new table
-  pub below : SameBelow old new table
-  pub free : IsFree (with_free (lists_in old table)) row
-  pub lists : lists_in new table ≡ slice_set (with_free (lists_in old table)) row (empty_list stride)
+pub record Takes (old new fronts : List ℕ) (p q : Places) (stride row : ℕ) : Type 0 where
+  pub blocks : AreBlocks new fronts q
+  pub base : q.base ≡ p.base
+  pub free : IsFree (with_free (lists_in old p.table)) row
+  pub lists : lists_in new q.table ≡ slice_set (with_free (lists_in old p.table)) row (empty_list stride)
+  pub below : (k : ℕ) → k < p.base → slice_index new k ≡ slice_index old k
 
 -- no row is free, and the pool does not hold another one
-pub record IsFull (pool : List ℕ) (table end f : ℕ) : Type 0 where
-  pub full : any_free (lists_in pool table) ≡ false
-  pub whole : f + round4 (10 * row_count pool table) ≡ end + round4 (10 * (row_count pool table + 1))
+pub record IsRefused (pool : List ℕ) (p : Places) (f : ℕ) : Type 0 where
+  pub full : any_free (lists_in pool p.table) ≡ false
+  pub whole : f + round4 (10 * row_count pool p.table) ≡ p.footprint + round4 (10 * (row_count pool p.table + 1))
   pub above : pool_size < f
+
+-- bytes are stored in the row's list from a place on, and all places stay
+pub record Stores (old new : List ℕ) (table row at : ℕ) (bytes : List ℕ) : Type 0 where
+  pub blocks : (fronts : List ℕ) (p : Places) → table ≡ p.table → AreBlocks old fronts p → AreBlocks new fronts p
+  pub lists : lists_in new table ≡ lists_with_bytes old table row at bytes
+  pub below : (fronts : List ℕ) (p : Places) → table ≡ p.table → AreBlocks old fronts p → (k : ℕ) → k < p.base → slice_index new k ≡ slice_index old k
+
+-- the fields of a heap fit one another
+pub record IsHeap (static_size : ℕ) (p : Places) (pool fronts : List ℕ) : Type 0 where
+  pub blocks : AreBlocks pool fronts p
+  pub base_is : p.base ≡ round4 static_size

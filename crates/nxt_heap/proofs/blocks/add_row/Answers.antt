@@ -1,159 +1,71 @@
-use Rattle.std.proofs.Common.{◌≡◌, ◌∙◌, ◌+◌, ◌*◌, sym, ap, arith}
+use Rattle.std.proofs.Common.{◌≡◌, ◌+◌, ◌-◌, ◌*◌, ◌≤◌, inl, refl, ap, ◌∙◌, arith}
 use Rattle.nxt_types.specs.Pool.{round4}
 use Rattle.nxt_rows.specs.Rows.{dope_row, row_count}
-use Rattle.nxt_heap.specs.Inside.Pool.{row_block}
-use Rattle.nxt_heap.proofs.Rows.Added.{Adds, Grown, two_count, two_end, grown_dense, grown_lists, grown_end}
-use Rattle.nxt_heap.proofs.Pool.Places.{row_in_pool, table_within, block_ends, blocks_before-zero}
-use Rattle.nxt_heap.proofs.Lists.OfPool.{table-block}
+use Rattle.nxt_compact.specs.Pools.{block_bytes}
+use Rattle.nxt_compact.proofs.Going.{first_full}
+use Rattle.nxt_compact.proofs.Opening.{before_most}
+use Rattle.nxt_heap.proofs.RowAdded.{table_was, added_pool, added_lists, added_fronts, added_last, added_most, added_total}
+use Rattle.nxt_heap.proofs.Settled.{total_below, end_inside}
 use Rattle.nxt_heap.proofs.blocks.add_row.Goals as goal
+use Rattle.nxt_heap.proofs.blocks.add_row.Goals.{then-at-had, else-at-had}
 
-pub get-first-requires : goal.get-first-requires
-get-first-requires c = row_in_pool c.args.pool.now c.args.table 0 c.requires.dense c.requires.dense.some
+-- the footprint lies in the pool, and the table in the footprint
+record Fits (c : goal.After-at-1) : Type 0 where
+  most : c.args.at.now.footprint ≤ 32768
+  had : c.round4-had.result ≡ round4 (10 * row_count c.args.pool.now c.args.at.now.table)
+  own : c.round4-had.result ≤ c.args.at.now.footprint
+  room : c.round4-room.result ≡ round4 (10 * (row_count c.args.pool.now c.args.at.now.table + 1))
+  more : c.round4-room.result ≤ 32768
 
-pub open_room-requires-clause-block : goal.open_room-requires-clause-block
-open_room-requires-clause-block c =
-    omega (
-      arith,
-      c.round4.ensures,
-      ap (λ r. round4 (10 * r.count)) c.get-first.ensures,
-      table-block c.args.pool.now c.args.table c.requires.dense,
-      c.requires.end,
-      block_ends c.args.pool.now c.args.table 0 c.requires.dense.some,
-      blocks_before-zero c.args.pool.now c.args.table,
-    )
+was : (c : goal.After-at-1) → block_bytes (dope_row c.args.pool.now c.args.at.now.table 0) ≡ round4 (10 * row_count c.args.pool.now c.args.at.now.table)
+was c = let b = c.requires.blocks in table_was c.args.pool.now c.write_row.new.pool c.args.at.now.table c.args.at.now.base c.args.stride b.is_pool c.requires.full c.requires.stride c.requires.room c.write_row.ensures
 
-pub open_room-requires-clause-fits : goal.open_room-requires-clause-fits
-open_room-requires-clause-fits c =
-    let rows = ap (λ r. r.count) c.get-first.ensures in
-    omega (
-      arith,
-      c.round4.ensures,
-      c.round4-room.ensures,
-      rows,
-      table-block c.args.pool.now c.args.table c.requires.dense,
-      c.requires.end,
-      c.requires.fits,
-      c.requires.dense.size,
-      block_ends c.args.pool.now c.args.table 0 c.requires.dense.some,
-      blocks_before-zero c.args.pool.now c.args.table,
-    )
-
-pub overflow_add-count : goal.overflow_add-count
-overflow_add-count c =
-    omega (arith, table_within c.args.pool.now c.args.table c.requires.dense, c.requires.dense.size, ap (λ r. r.count) c.get-first.ensures)
-
-pub set-requires : goal.set-requires
-set-requires c =
-    let inside = row_in_pool c.args.pool.now c.args.table 0 c.requires.dense c.requires.dense.some in
-    omega (arith, inside, c.open_room.auto.pool)
-
-pub set-requires-2 : goal.set-requires-2
-set-requires-2 c =
-    omega (
-      arith,
-      c.open_room.auto.pool,
-      c.set.auto.pool,
-      ap (λ r. r.count) c.get-first.ensures,
-      c.requires.dense.size,
-      c.requires.fits,
-      c.requires.end,
-      table-block c.args.pool.now c.args.table c.requires.dense,
-      block_ends c.args.pool.now c.args.table 0 c.requires.dense.some,
-      blocks_before-zero c.args.pool.now c.args.table,
-    )
-
-adds : (c : goal.After-place_rows-arg-1) → Adds c.args.pool.now c.open_room.new.pool c.set.new.pool c.set-2.new.pool c.args.table c.args.stride c.round4-room.result
-adds c =
-    let d = c.requires.dense in
-    let block = table-block c.args.pool.now c.args.table d in
-    let size : c.round4.result ≡ row_block (dope_row c.args.pool.now c.args.table 0) =
-    c.round4.ensures ∙ ap (λ r. round4 (10 * r.count)) c.get-first.ensures ∙ sym block in
-    let longer : 10 * c.get-first.result.count + 10 ≡ 10 * (row_count c.args.pool.now c.args.table + 1) =
-    omega (arith, ap (λ r. r.count) c.get-first.ensures) in
-    let room : c.round4-room.result ≡ round4 (10 * (row_count c.args.pool.now c.args.table + 1)) = c.round4-room.ensures ∙ ap round4 longer in
+fits : (c : goal.After-at-1) → Fits c
+fits c =
+    let b = c.requires.blocks in
+    let pool = c.args.pool.now in
+    let table = c.args.at.now.table in
+    let rows : c.get-rows.result.count ≡ row_count pool table = ap (λ d. d.count) c.get-rows.ensures in
+    let had : c.round4-had.result ≡ round4 (10 * row_count pool table) = c.round4-had.ensures ∙ ap (λ n. round4 (10 * n)) rows in
+    let room : c.round4-room.result ≡ round4 (10 * (row_count pool table + 1)) = c.round4-room.ensures ∙ ap (λ n. round4 (10 * (n + 1))) rows in
     record {
-      dense = d;
-      full = c.requires.full;
-      stride_some = c.requires.stride;
-      room_is = room;
-      fits = omega (arith, room, block, c.requires.fits, c.requires.end);
-      front = rw c.get-first.ensures at c.open_room.ensures.front;
-      moved = λ k low. (rw size at c.open_room.ensures.moved) k (omega (arith, low, c.requires.end));
-      first = rw c.get-first.ensures at c.set.ensures.row;
-      one_others = c.set.ensures.others;
-      one_below = λ k z low. c.set.ensures.below k z (omega arith);
-      one_above = λ k z high. c.set.ensures.above k z (omega arith);
-      added = (rw c.get-first.ensures at c.set-2.ensures.row) ∙ c.empty.ensures;
-      two_others = rw c.get-first.ensures at c.set-2.ensures.others;
-      two_below = rw c.get-first.ensures at c.set-2.ensures.below;
-      two_above = rw c.get-first.ensures at c.set-2.ensures.above;
+      most = omega (arith, b.footprint_is, total_below pool table c.args.at.now.base c.args.at.now.end b.is_pool b.end_is, end_inside pool table c.args.at.now.base c.args.at.now.end b.is_pool b.end_is);
+      had = had;
+      own = omega (arith, had, b.footprint_is, before_most pool table 0 b.is_pool.sound.some, was c);
+      room = room;
+      more = omega (arith, room, c.requires.room.within, b.is_pool.size);
     }
 
-pub place_rows-requires-clause-table : goal.place_rows-requires-clause-table
-place_rows-requires-clause-table c =
-    let a = adds c in
-    omega (
-      arith,
-      two_count c.args.pool.now c.open_room.new.pool c.set.new.pool c.set-2.new.pool c.args.table c.args.stride c.round4-room.result a,
-      c.open_room.auto.pool,
-      c.set.auto.pool,
-      c.set-2.auto.pool,
-      c.requires.dense.size,
-      a.room_is,
-      a.fits,
-      block_ends c.args.pool.now c.args.table 0 c.requires.dense.some,
-      blocks_before-zero c.args.pool.now c.args.table,
-    )
+pub overflow_add-at-2 : goal.overflow_add-at-2
+overflow_add-at-2 c = let f = fits c in omega (arith, f.most, f.more)
 
-pub place_rows-requires-clause-fits : goal.place_rows-requires-clause-fits
-place_rows-requires-clause-fits c =
-    let a = adds c in
-    omega (arith, two_end c.args.pool.now c.open_room.new.pool c.set.new.pool c.set-2.new.pool c.args.table c.args.stride c.round4-room.result a, a.fits)
+pub overflow_sub-at : goal.overflow_sub-at
+overflow_sub-at c = let f = fits c in omega (arith, f.own)
 
-added : (c : goal.After-slice_known-7-1) → Adds c.args.pool.now c.open_room.new.pool c.set.new.pool c.set-2.new.pool c.args.table c.args.stride c.round4-room.result
-added c =
-    let d = c.requires.dense in
-    let block = table-block c.args.pool.now c.args.table d in
-    let size : c.round4.result ≡ row_block (dope_row c.args.pool.now c.args.table 0) =
-    c.round4.ensures ∙ ap (λ r. round4 (10 * r.count)) c.get-first.ensures ∙ sym block in
-    let longer : 10 * c.get-first.result.count + 10 ≡ 10 * (row_count c.args.pool.now c.args.table + 1) =
-    omega (arith, ap (λ r. r.count) c.get-first.ensures) in
-    let room : c.round4-room.result ≡ round4 (10 * (row_count c.args.pool.now c.args.table + 1)) = c.round4-room.ensures ∙ ap round4 longer in
+pub returns : goal.returns
+returns c =
+    let b = c.requires.blocks in
+    let pool = c.args.pool.now in
+    let table = c.args.at.now.table in
+    let rows : c.get-rows.result.count ≡ row_count pool table = ap (λ d. d.count) c.get-rows.ensures in
+    let had : c.round4-had.result ≡ round4 (10 * row_count pool table) = c.round4-had.ensures ∙ ap (λ n. round4 (10 * n)) rows in
+    let room : c.round4-room.result ≡ round4 (10 * (row_count pool table + 1)) = c.round4-room.ensures ∙ ap (λ n. round4 (10 * (n + 1))) rows in
+    let own = table_was c.args.pool.now c.write_row.new.pool c.args.at.now.table c.args.at.now.base c.args.stride b.is_pool c.requires.full c.requires.stride c.requires.room c.write_row.ensures in
+    let most = before_most pool table 0 b.is_pool.sound.some in
+    let first = first_full pool table c.args.at.now.base b.is_pool.sound in
     record {
-      dense = d;
-      full = c.requires.full;
-      stride_some = c.requires.stride;
-      room_is = room;
-      fits = omega (arith, room, block, c.requires.fits, c.requires.end);
-      front = rw c.get-first.ensures at c.open_room.ensures.front;
-      moved = λ k low. (rw size at c.open_room.ensures.moved) k (omega (arith, low, c.requires.end));
-      first = rw c.get-first.ensures at c.set.ensures.row;
-      one_others = c.set.ensures.others;
-      one_below = λ k z low. c.set.ensures.below k z (omega arith);
-      one_above = λ k z high. c.set.ensures.above k z (omega arith);
-      added = (rw c.get-first.ensures at c.set-2.ensures.row) ∙ c.empty.ensures;
-      two_others = rw c.get-first.ensures at c.set-2.ensures.others;
-      two_below = rw c.get-first.ensures at c.set-2.ensures.below;
-      two_above = rw c.get-first.ensures at c.set-2.ensures.above;
+      blocks = record {
+        is_pool = added_pool c.args.pool.now c.write_row.new.pool c.args.at.now.table c.args.at.now.base c.args.stride b.is_pool c.requires.full c.requires.stride c.requires.room c.write_row.ensures;
+        word = b.word;
+        are_fronts = added_fronts c.args.pool.now c.write_row.new.pool c.args.at.now.table c.args.at.now.base c.args.stride b.is_pool c.requires.full c.requires.stride c.requires.room c.write_row.ensures c.args.fronts.now b.are_fronts;
+        end_is = elim c.if-at-had.branch [
+          | then-at-had w ↦ rw (w.at-is, room) (added_last c.args.pool.now c.write_row.new.pool c.args.at.now.table c.args.at.now.base c.args.stride b.is_pool c.requires.full c.requires.stride c.requires.room c.write_row.ensures c.args.at.now.end b.end_is (omega (arith, w.if-at-had.true, had, own)))
+          | else-at-had w ↦ rw (w.at-is, w.max-at.ensures, room) (added_most c.args.pool.now c.write_row.new.pool c.args.at.now.table c.args.at.now.base c.args.stride b.is_pool c.requires.full c.requires.stride c.requires.room c.write_row.ensures c.args.at.now.end b.end_is (λ e. w.if-at-had.false (omega (arith, e, had, own))))
+        ];
+        footprint_is = omega (arith, b.footprint_is, had, room, own, most, added_total c.args.pool.now c.write_row.new.pool c.args.at.now.table c.args.at.now.base c.args.stride b.is_pool c.requires.full c.requires.stride c.requires.room c.write_row.ensures);
+      };
+      base = refl;
+      lists = added_lists c.args.pool.now c.write_row.new.pool c.args.at.now.table c.args.at.now.base c.args.stride b.is_pool c.requires.full c.requires.stride c.requires.room c.write_row.ensures;
+      below = λ k low. c.write_row.ensures.outside k (inl (omega (arith, low, b.is_pool.sound.above 0 first, b.is_pool.sound.place)));
+      footprint = omega (arith, b.footprint_is, had, room, own, most);
     }
-
-grown : (c : goal.After-slice_known-7-1)
-    → Grown c.args.pool.now c.open_room.new.pool c.set.new.pool c.set-2.new.pool c.place_rows.new.pool c.args.table c.args.stride c.round4-room.result
-grown c = record {
-  adds = added c;
-  places = record { rows = c.place_rows.ensures.rows; below = c.place_rows.ensures.below; above = c.place_rows.ensures.above };
-  size = c.place_rows.auto.pool ∙ c.set-2.auto.pool ∙ c.set.auto.pool ∙ c.open_room.auto.pool;
-}
-
-pub returns-clause-dense : goal.returns-clause-dense
-returns-clause-dense c =
-    grown_dense c.args.pool.now c.open_room.new.pool c.set.new.pool c.set-2.new.pool c.place_rows.new.pool c.args.table c.args.stride c.round4-room.result (grown c)
-
-pub returns-clause-lists : goal.returns-clause-lists
-returns-clause-lists c =
-    grown_lists c.args.pool.now c.open_room.new.pool c.set.new.pool c.set-2.new.pool c.place_rows.new.pool c.args.table c.args.stride c.round4-room.result (grown c)
-
-pub returns-clause-end : goal.returns-clause-end
-returns-clause-end c =
-    let ends = grown_end c.args.pool.now c.open_room.new.pool c.set.new.pool c.set-2.new.pool c.place_rows.new.pool c.args.table c.args.stride c.round4-room.result (grown c) in
-    omega (arith, ends, (added c).room_is, c.requires.end, table-block c.args.pool.now c.args.table c.requires.dense)

@@ -1,55 +1,58 @@
-use Rattle.std.proofs.Common.{◌≡◌, ◌≢◌, ◌∙◌, sym, ap, arith, refl, set}
+use Rattle.std.proofs.Common.{◌≡◌, ◌≢◌, refl, set, sym, ap, ◌∙◌, arith}
 use Rattle.nxt_rows.specs.Rows.{dope_row, free_rows}
+use Rattle.nxt_compact.proofs.Going.{first_full}
 use Rattle.nxt_heap.specs.Lists.{empty_list}
 use Rattle.nxt_heap.specs.Inside.Pool.{row_bytes, list_in, lists_in}
-use Rattle.nxt_heap.proofs.Rows.Free.{Front, any_free-front, with_free-free}
-use Rattle.nxt_heap.proofs.Pool.Places.{row_bytes-free, row_bytes-none}
-use Rattle.nxt_heap.proofs.Rows.TakenOrFreed.{Swaps, swapped_end, swapped_dense, swapped_lists, dense_table, taken_free}
-use Rattle.nxt_heap.proofs.Lists.OfPool.{list_in-some}
+use Rattle.nxt_heap.proofs.Chained.{Swaps, swapped_blocks, swapped_lists, pool_table, taken_free}
+use Rattle.nxt_heap.proofs.FreeRows.{Front, any_free-front, with_free-free}
+use Rattle.nxt_heap.proofs.ListsKept.{list_in-some}
+use Rattle.nxt_heap.proofs.Windows.{row_bytes-free, row_bytes-none}
 use Rattle.nxt_heap.proofs.blocks.new_list.Goals as goal
 
 pub take_row-requires-clause-table : goal.take_row-requires-clause-table
-take_row-requires-clause-table c = dense_table c.args.pool.now c.args.table c.requires.dense
+take_row-requires-clause-table c = pool_table c.args.pool.now c.args.at.now.table c.args.at.now.base c.requires.blocks.is_pool
 
-front : (c : goal.In-Some) → Front c.args.pool.now c.args.table c.in-Some.row
-front c = any_free-front c.args.pool.now c.args.table c.in-Some.row (free_rows c.take_row.new.pool c.args.table) c.requires.dense c.in-Some.ensures.front
+front : (c : goal.In-Some) → Front c.args.pool.now c.args.at.now.table c.in-Some.row
+front c = any_free-front c.args.pool.now c.args.at.now.table c.args.at.now.base c.in-Some.row (free_rows c.take_row.new.pool c.args.at.now.table) c.requires.blocks.is_pool c.in-Some.ensures.front
 
-some_stride : (c : goal.In-Some) → (dope_row c.take_row.new.pool c.args.table c.in-Some.row).stride ≢ 0
+some_stride : (c : goal.In-Some) → (dope_row c.take_row.new.pool c.args.at.now.table c.in-Some.row).stride ≢ 0
 some_stride c = λ e. omega (arith, e, ap (λ r. r.stride) c.in-Some.ensures.row, c.requires.stride)
 
-swaps : (c : goal.In-Some) → Swaps c.args.pool.now c.take_row.new.pool c.args.table c.in-Some.row
+swaps : (c : goal.In-Some) → Swaps c.args.pool.now c.take_row.new.pool c.args.at.now.table c.in-Some.row
 swaps c =
     let f = front c in
     record {
       size = c.take_row.auto.pool;
       above = f.free.above;
       within = f.within;
-      no_bytes = row_bytes-free (dope_row c.args.pool.now c.args.table c.in-Some.row) f.stride;
+      no_bytes = row_bytes-free (dope_row c.args.pool.now c.args.at.now.table c.in-Some.row) f.stride;
       count = ap (λ r. r.count) c.in-Some.ensures.row;
       place = ap (λ r. r.place) c.in-Some.ensures.row;
       others = c.in-Some.ensures.others;
       outside = c.in-Some.ensures.outside;
       chain = c.in-Some.ensures.chain;
       free = λ q above below.
-          taken_free c.args.pool.now c.take_row.new.pool c.args.table c.in-Some.row q c.requires.dense c.in-Some.ensures.front (some_stride c)
+          taken_free c.args.pool.now c.take_row.new.pool c.args.at.now.table c.args.at.now.base c.in-Some.row q c.requires.blocks.is_pool c.in-Some.ensures.front (some_stride c)
           (λ other. ap (λ r. r.stride) (c.in-Some.ensures.others.others q (λ e. omega (arith, e, above)) other)) above below;
     }
 
 pub returns-in-Some-clause-ok : goal.returns-in-Some-clause-ok
 returns-in-Some-clause-ok c =
+    let b = c.requires.blocks in
     let f = front c in
     let s = swaps c in
-    let row = dope_row c.take_row.new.pool c.args.table c.in-Some.row in
-    let same = with_free-free (lists_in c.args.pool.now c.args.table) f.any in
+    let row = dope_row c.take_row.new.pool c.args.at.now.table c.in-Some.row in
+    let same = with_free-free (lists_in c.args.pool.now c.args.at.now.table) f.any in
     let none : row_bytes row ≡ 0 = row_bytes-none row (ap (λ r. r.count) c.in-Some.ensures.row) in
     let stride : row.stride ≡ c.args.stride = ap (λ r. r.stride) c.in-Some.ensures.row in
-    let here : list_in c.take_row.new.pool c.args.table c.in-Some.row ≡ empty_list c.args.stride =
-    list_in-some c.take_row.new.pool c.args.table c.in-Some.row f.free.above (some_stride c) ∙ rw (none, stride) refl in
+    let here : list_in c.take_row.new.pool c.args.at.now.table c.in-Some.row ≡ empty_list c.args.stride =
+    list_in-some c.take_row.new.pool c.args.at.now.table c.in-Some.row f.free.above (some_stride c) ∙ rw (none, stride) refl in
+    let first = first_full c.args.pool.now c.args.at.now.table c.args.at.now.base b.is_pool.sound in
     record {
-      dense = swapped_dense c.args.pool.now c.take_row.new.pool c.args.table c.in-Some.row c.requires.dense s;
-      end_is = c.requires.end ∙ sym (swapped_end c.args.pool.now c.take_row.new.pool c.args.table c.in-Some.row s);
-      below = c.in-Some.ensures.outside.below;
+      blocks = swapped_blocks c.args.pool.now c.take_row.new.pool c.args.fronts.now c.args.at.now c.in-Some.row b s;
+      base = refl;
       free = rw same f.free;
-      lists = swapped_lists c.args.pool.now c.take_row.new.pool c.args.table c.in-Some.row (empty_list c.args.stride) c.requires.dense s here
+      lists = swapped_lists c.args.pool.now c.take_row.new.pool c.args.at.now.table c.args.at.now.base c.in-Some.row b.is_pool s (empty_list c.args.stride) here
           ∙ ap (λ xs. set xs c.in-Some.row (empty_list c.args.stride)) (sym same);
+      below = λ k low. s.outside.below k 0 (omega (arith, low, b.is_pool.sound.above 0 first, b.is_pool.sound.place));
     }

@@ -1,7 +1,7 @@
 -- The list gets the other's length and then its bytes.
 use Rattle.std.proofs.Common.{◌∙◌, sym, ap}
 use Rattle.nxt_heap.specs.Lists.{with_bytes, bytes_at}
-use Rattle.nxt_heap.proofs.Lists.Changes.{copied}
+use Rattle.nxt_heap.proofs.Changed.{copied}
 use Rattle.nxt_heap.proofs.heap.Heap.copy_list.Goals as goal
 
 pub returns-clause-ok : goal.returns-clause-ok

@@ -1,41 +1,26 @@
-use Rattle.std.proofs.Common.{◌∙◌, None, ap, arith, length}
+use Rattle.std.proofs.Common.{◌∙◌, None, ap, arith}
 use Rattle.std.proofs.lemmas.List.{with_items_is}
-use Rattle.nxt_types.specs.Pool.{round4}
 use Rattle.nxt_heap.specs.Lists.{with_list}
-use Rattle.nxt_heap.specs.Inside.Pool.{row_block}
-use Rattle.nxt_heap.proofs.Lists.Changes.{Lives, lives, static-kept}
-use Rattle.nxt_heap.proofs.Pool.Places.{row_in_pool, block_ends}
+use Rattle.nxt_heap.specs.Inside.Pool.{Frees}
+use Rattle.nxt_heap.proofs.Seen.{lives, list_row}
+use Rattle.nxt_heap.proofs.Changed.{after_free}
 use Rattle.nxt_heap.proofs.heap.Heap.free_array.Goals as goal
 
-pub get-requires : goal.get-requires
-get-requires c =
-    let l = lives c.self.inside.pool.items (round4 c.self.inside.static_size) c.args.row (rw (← c.self.view_is) at c.requires) in
-    rw (c.table_above-table.ensures, c.deref.ensures.value)
-    (row_in_pool c.self.inside.pool.items (round4 c.self.inside.static_size) c.args.row c.self.invariant.0.dense l.within)
-
-pub block_bytes-had-requires : goal.block_bytes-had-requires
-block_bytes-had-requires c =
-    let l = lives c.self.inside.pool.items (round4 c.self.inside.static_size) c.args.row (rw (← c.self.view_is) at c.requires) in
-    let found = ap row_block (rw (c.table_above-table.ensures, c.deref.ensures.value) at c.get.ensures) in
-    omega (arith, found, block_ends c.self.inside.pool.items (round4 c.self.inside.static_size) c.args.row l.within, c.self.invariant.0.dense.fits)
-
-living : (c : goal.After-deref_mut-2) → Lives c.self.inside.pool.items (round4 c.self.inside.static_size) c.args.row
-living c = lives c.self.inside.pool.items (round4 c.self.inside.static_size) c.args.row (rw (← c.self.view_is) at c.requires)
-
-pub free_block-requires-clause-above : goal.free_block-requires-clause-above
-free_block-requires-clause-above c = (living c).above
-
-pub free_block-requires-clause-within : goal.free_block-requires-clause-within
-free_block-requires-clause-within c = rw (c.deref_mut.ensures.value, c.table_above-table.ensures) (living c).within
-
-pub free_block-requires-clause-alive : goal.free_block-requires-clause-alive
-free_block-requires-clause-alive c = rw (c.deref_mut.ensures.value, c.table_above-table.ensures) (living c).stride
+pub free_list-requires-clause-list : goal.free_list-requires-clause-list
+free_list-requires-clause-list c =
+    let pool = c.self.inside.pool.items in
+    let table = c.self.inside.places.table in
+    let l = lives pool table c.args.row (rw (← c.self.view_is) at c.requires) in
+    rw c.deref_mut.ensures.value (list_row pool table c.args.row 0 l (omega arith))
 
 pub returns : goal.returns
 returns c =
-    let items = with_items_is c.self.inside.pool c.free_block.new.pool (c.free_block.auto.pool ∙ c.deref_mut.ensures.len) in
-    let lists = rw (c.deref_mut.ensures.value, c.table_above-table.ensures) at c.free_block.ensures.lists in
-    let below = rw (c.deref_mut.ensures.value, c.table_above-table.ensures) at c.free_block.ensures.below in
-    let static = static-kept c.self.inside.pool.items c.free_block.new.pool c.self.inside.static_size c.self.invariant.0.dense
-    (c.free_block.auto.pool ∙ ap length c.deref_mut.ensures.value) below in
-    rw (items, static, lists) (ap (λ h. with_list h.lists c.args.row None) c.self.view_is)
+    let pool = c.self.inside.pool.items in
+    let fronts = c.self.inside.fronts.items in
+    let p = c.self.inside.places in
+    let n = c.self.inside.static_size in
+    let items = with_items_is c.self.inside.pool c.free_list.new.pool (c.free_list.auto.pool ∙ c.deref_mut.ensures.len) in
+    let f : Frees pool c.free_list.new.pool c.free_list.new.fronts p c.free_list.new.at c.args.row = rw c.deref_mut.ensures.value at c.free_list.ensures in
+    rw items
+    (after_free n pool c.free_list.new.pool fronts c.free_list.new.fronts p c.free_list.new.at c.args.row c.self.invariant f
+    ∙ ap (λ h. with_list h.lists c.args.row None) c.self.view_is)

@@ -1,44 +1,60 @@
-use Rattle.std.proofs.Common.{◌≡◌, ◌∙◌, ap, arith, length}
+-- A row is taken, or added where the pool holds it.
+use Rattle.std.proofs.Common.{◌≡◌, ◌≤◌, ◌∙◌, ℕ, ap, arith}
+use Rattle.std.specs.Prelude.{Result, Ok, Err, IfOk, OnOk}
+use Rattle.std.proofs.lemmas.Result.{IfOk-weaker, IfErr-weaker}
 use Rattle.std.proofs.lemmas.List.{with_items_is}
-use Rattle.nxt_types.specs.Pool.{round4}
-use Rattle.nxt_heap.specs.Lists.{footprint, with_list, with_free_row, empty_list}
-use Rattle.nxt_heap.specs.Inside.Pool.{state_of, Takes, IsFull}
-use Rattle.nxt_heap.proofs.Lists.Changes.{static-kept, footprint-more, footprint-taken}
-use Rattle.nxt_heap.proofs.Lists.OfPool.{footprint-state}
+use Rattle.nxt_types.specs.Pool.{pool_size}
+use Rattle.nxt_heap.specs.Lists.{Passes, IsFree, footprint, with_list, with_free, with_free_row, empty_list}
+use Rattle.nxt_heap.specs.Inside.Pool.{Takes, IsRefused}
+use Rattle.nxt_heap.specs.declared.passed.PoolPassed.{PoolPassed}
+use Rattle.nxt_heap.proofs.Changed.{shown, after_taken, footprint_more, taken_fits}
 use Rattle.nxt_heap.proofs.heap.Heap.new_array.Goals as goal
 
-takes : (c : goal.After-self-in-Ok-1)
-    → Takes c.self.inside.pool.items c.new_list.new.pool (round4 c.self.inside.static_size) c.args.stride c.in-Ok.taken.row c.in-Ok.taken.end
-takes c = rw (c.deref_mut.ensures.value, c.table_above.ensures) at c.in-Ok.ensures.ok
+takes : (c : goal.After-self-2-1) → IfOk c.new_list.result (Takes c.self.inside.pool.items c.new_list.new.pool c.new_list.new.fronts c.self.inside.places c.new_list.new.at c.args.stride)
+takes c = rw c.deref_mut.ensures.value at c.new_list.ensures.ok
 
-state : (c : goal.After-self-in-Ok-1)
-    → state_of c.self.inside.static_size c.new_list.new.pool ≡ with_list (with_free_row c.args.self.now.lists) c.in-Ok.taken.row (empty_list c.args.stride)
-state c =
-    let t = takes c in
-    let static = static-kept c.self.inside.pool.items c.new_list.new.pool c.self.inside.static_size c.self.invariant.0.dense
-    (c.new_list.auto.pool ∙ ap length c.deref_mut.ensures.value) t.below in
-    rw (static, t.lists) (ap (λ h. with_list (with_free_row h.lists) c.in-Ok.taken.row (empty_list c.args.stride)) c.self.view_is)
+pub returns-clause-free : goal.returns-clause-free
+returns-clause-free c =
+    IfOk-weaker c.new_list.result (Takes c.self.inside.pool.items c.new_list.new.pool c.new_list.new.fronts c.self.inside.places c.new_list.new.at c.args.stride) (λ row. IsFree (with_free c.args.self.now.lists.by_row) row)
+    (λ row t. rw (← c.self.view_is) t.free) (takes c)
 
-pub returns-in-Ok-clause-ok : goal.returns-in-Ok-clause-ok
-returns-in-Ok-clause-ok c =
+pub returns-clause-ok : goal.returns-clause-ok
+returns-clause-ok c =
+    let pool = c.self.inside.pool.items in
+    let fronts = c.self.inside.fronts.items in
+    let p = c.self.inside.places in
+    let n = c.self.inside.static_size in
     let items = with_items_is c.self.inside.pool c.new_list.new.pool (c.new_list.auto.pool ∙ c.deref_mut.ensures.len) in
-    rw items (state c)
+    rw items
+    (IfOk-weaker c.new_list.result (Takes pool c.new_list.new.pool c.new_list.new.fronts p c.new_list.new.at c.args.stride) (λ row. shown n c.new_list.new.pool c.new_list.new.at ≡ with_list (with_free_row c.args.self.now.lists) row (empty_list c.args.stride))
+    (λ row t.
+    after_taken n pool c.new_list.new.pool fronts c.new_list.new.fronts p c.new_list.new.at c.args.stride row c.self.invariant t
+    ∙ ap (λ h. with_list (with_free_row h.lists) row (empty_list c.args.stride)) c.self.view_is) (takes c))
 
-pub returns-in-Ok-clause-fits : goal.returns-in-Ok-clause-fits
-returns-in-Ok-clause-fits c =
-    let t = takes c in
-    let h = state_of c.self.inside.static_size c.self.inside.pool.items in
-    let same = footprint-taken (with_free_row h) c.in-Ok.taken.row c.args.stride t.free in
-    let taken = ap (λ g. footprint (with_list (with_free_row g.lists) c.in-Ok.taken.row (empty_list c.args.stride))) c.self.view_is in
-    let whole = ap (λ g. footprint (with_free_row g.lists)) c.self.view_is in
-    omega (arith, same, taken, whole, ap footprint (state c), footprint-state c.self.inside.static_size c.new_list.new.pool t.dense, t.dense.fits)
+on_ok : (r : Result ℕ PoolPassed) (P : ℕ → Type 0) (Q : Type 0) → ((row : ℕ) → P row → Q) → IfOk r P → OnOk r Q
+on_ok (Ok row) P Q f p = f row p
+on_ok (Err e) P Q f p = tt
 
-pub returns-in-Err-clause-passed : goal.returns-in-Err-clause-passed
-returns-in-Err-clause-passed c =
-    let f : IsFull c.self.inside.pool.items (round4 c.self.inside.static_size) c.self.inside.end c.in-Err.passed.0 =
-    rw (c.deref_mut.ensures.value, c.table_above.ensures) at c.in-Err.ensures.full in
-    let more = footprint-more c.self.inside.static_size c.self.inside.pool.items c.self.invariant.0.dense f.full in
+pub returns-clause-fits : goal.returns-clause-fits
+returns-clause-fits c =
+    let pool = c.self.inside.pool.items in
+    let fronts = c.self.inside.fronts.items in
+    let p = c.self.inside.places in
+    let n = c.self.inside.static_size in
+    on_ok c.new_list.result (Takes pool c.new_list.new.pool c.new_list.new.fronts p c.new_list.new.at c.args.stride) (footprint (with_free_row c.args.self.now.lists) ≤ pool_size)
+    (λ row t. rw (← c.self.view_is) (taken_fits n pool c.new_list.new.pool fronts c.new_list.new.fronts p c.new_list.new.at c.args.stride row c.self.invariant t)) (takes c)
+
+pub returns-clause-passed : goal.returns-clause-passed
+returns-clause-passed c =
+    let pool = c.self.inside.pool.items in
+    let fronts = c.self.inside.fronts.items in
+    let p = c.self.inside.places in
+    let n = c.self.inside.static_size in
+    let refused = rw c.deref_mut.ensures.value at c.new_list.ensures.passed in
+    IfErr-weaker c.new_list.result (λ e. IsRefused pool p e.0) (λ e. Passes (with_free_row c.args.self.now.lists) e.0)
+    (λ e f.
+    let more = footprint_more n pool fronts p c.self.invariant f.full in
     record {
-      whole = omega (arith, more, f.whole, c.self.invariant.0.end_is, ap (λ h. footprint (with_free_row h.lists)) c.self.view_is);
+      whole = omega (arith, more, f.whole, ap (λ h. footprint (with_free_row h.lists)) c.self.view_is);
       above = f.above;
-    }
+    }) refused

@@ -1,134 +1,131 @@
 use Rattle.std.proofs.Common.{◌≡◌, ◌∙◌, ap, sym, arith, length}
 use Rattle.std.proofs.lemmas.List.{with_items_is}
-use Rattle.std.specs.Vec.{with_items}
 use Rattle.nxt_types.specs.Pool.{round4}
-use Rattle.nxt_heap.specs.Lists.{footprint, with_length, bytes_at}
-use Rattle.nxt_heap.specs.Inside.Pool.{row_block, row_bytes, state_of}
-use Rattle.nxt_heap.proofs.Lists.Changes.{Lives, lives, static-kept, state-with_length, footprint-with_length, length_same, size_lived}
-use Rattle.nxt_heap.proofs.Lists.OfPool.{footprint-state}
-use Rattle.nxt_heap.proofs.Pool.Places.{row_in_pool, block_ends}
+use Rattle.nxt_compact.specs.Pools.{block_bytes}
+use Rattle.nxt_heap.specs.Lists.{footprint, with_length, bytes_at, stride_of}
+use Rattle.nxt_heap.specs.Inside.Pool.{row_bytes, HasLength}
+use Rattle.nxt_heap.proofs.Seen.{lives, list_row, row_inside, footprint_state}
+use Rattle.nxt_heap.proofs.Changed.{shown, still_heap, after_length, size_lived, footprint_length, length_same, footprint_inside, block_inside}
 use Rattle.nxt_heap.proofs.heap.Heap.resize.Goals as goal
+
+-- ---- the row
 
 pub get-found-requires : goal.get-found-requires
 get-found-requires c =
-    let l = lives c.self.inside.pool.items (round4 c.self.inside.static_size) c.args.row (rw (← c.self.view_is) at c.requires.alive) in
-    rw (c.table_above-table.ensures, c.deref.ensures.value)
-    (row_in_pool c.self.inside.pool.items (round4 c.self.inside.static_size) c.args.row c.self.invariant.0.dense l.within)
+    let pool = c.self.inside.pool.items in
+    let p = c.self.inside.places in
+    let l = lives pool p.table c.args.row (rw (← c.self.view_is) at c.requires.alive) in
+    rw c.deref.ensures.value (row_inside pool p.table p.base c.args.row c.self.invariant.blocks.is_pool l.within)
+
+-- ---- as many bytes as there are
 
 pub returns-then-byte_count-bytes-clause-ok : goal.returns-then-byte_count-bytes-clause-ok
 returns-then-byte_count-bytes-clause-ok c =
     let pool = c.self.inside.pool.items in
-    let l = lives pool (round4 c.self.inside.static_size) c.args.row (rw (← c.self.view_is) at c.requires.alive) in
-    let found = ap row_bytes (rw (c.table_above-table.ensures, c.deref.ensures.value) at c.get-found.ensures) in
-    let size = size_lived pool c.self.inside.static_size c.args.row c.self.invariant.0.dense l in
+    let fronts = c.self.inside.fronts.items in
+    let p = c.self.inside.places in
+    let n = c.self.inside.static_size in
+    let l = lives pool p.table c.args.row (rw (← c.self.view_is) at c.requires.alive) in
+    let found = ap row_bytes (rw c.deref.ensures.value at c.get-found.ensures) in
+    let size = size_lived n pool fronts p c.args.row c.self.invariant l in
     let seen = ap (λ h. length (bytes_at h.lists c.args.row)) c.self.view_is in
     sym (length_same c.args.self.now.lists c.args.row c.args.bytes c.requires.alive (sym seen ∙ size ∙ sym (c.byte_count.ensures ∙ found) ∙ c.if-byte_count-bytes.true))
 
 pub returns-then-byte_count-bytes-clause-fits : goal.returns-then-byte_count-bytes-clause-fits
 returns-then-byte_count-bytes-clause-fits c =
     let pool = c.self.inside.pool.items in
-    let l = lives pool (round4 c.self.inside.static_size) c.args.row (rw (← c.self.view_is) at c.requires.alive) in
-    let found = ap row_bytes (rw (c.table_above-table.ensures, c.deref.ensures.value) at c.get-found.ensures) in
-    let size = size_lived pool c.self.inside.static_size c.args.row c.self.invariant.0.dense l in
-    let seen = ap (λ h. length (bytes_at h.lists c.args.row)) c.self.view_is in
-    let same = length_same c.args.self.now.lists c.args.row c.args.bytes c.requires.alive (sym seen ∙ size ∙ sym (c.byte_count.ensures ∙ found) ∙ c.if-byte_count-bytes.true) in
-    let whole = footprint-state c.self.inside.static_size pool c.self.invariant.0.dense in
-    omega (arith, ap footprint same, ap (λ h. footprint h.lists) c.self.view_is, whole, c.self.invariant.0.dense.fits)
+    let fronts = c.self.inside.fronts.items in
+    let p = c.self.inside.places in
+    let n = c.self.inside.static_size in
+    let same = returns-then-byte_count-bytes-clause-ok c in
+    omega (arith, ap footprint same, ap (λ h. footprint h.lists) c.self.view_is, footprint_state n pool fronts p c.self.invariant, footprint_inside n pool fronts p c.self.invariant)
 
-pub block_bytes-had-requires : goal.block_bytes-had-requires
-block_bytes-had-requires c =
-    let l = lives c.self.inside.pool.items (round4 c.self.inside.static_size) c.args.row (rw (← c.self.view_is) at c.requires.alive) in
-    let found = ap row_block (rw (c.table_above-table.ensures, c.deref.ensures.value) at c.get-found.ensures) in
-    omega (arith, found, block_ends c.self.inside.pool.items (round4 c.self.inside.static_size) c.args.row l.within, c.self.invariant.0.dense.fits)
+-- ---- a growth that passes the pool
 
 pub overflow_sub-footprint : goal.overflow_sub-footprint
 overflow_sub-footprint c =
-    let l = lives c.self.inside.pool.items (round4 c.self.inside.static_size) c.args.row (rw (← c.self.view_is) at c.requires.alive) in
-    let found = ap row_block (rw (c.table_above-table.ensures, c.deref.ensures.value) at c.get-found.ensures) in
-    omega (
-      arith,
-      found,
-      c.block_bytes-had.ensures,
-      block_ends c.self.inside.pool.items (round4 c.self.inside.static_size) c.args.row l.within,
-      c.self.invariant.0.end_is,
-    )
+    let pool = c.self.inside.pool.items in
+    let fronts = c.self.inside.fronts.items in
+    let p = c.self.inside.places in
+    let n = c.self.inside.static_size in
+    let l = lives pool p.table c.args.row (rw (← c.self.view_is) at c.requires.alive) in
+    let found = ap block_bytes (rw c.deref.ensures.value at c.get-found.ensures) in
+    omega (arith, found, c.block_bytes.ensures, block_inside n pool fronts p c.args.row c.self.invariant l.within)
 
 pub returns-then-footprint-gt-POOL_BYTES-clause-passed : goal.returns-then-footprint-gt-POOL_BYTES-clause-passed
 returns-then-footprint-gt-POOL_BYTES-clause-passed c =
-    let l = lives c.self.inside.pool.items (round4 c.self.inside.static_size) c.args.row (rw (← c.self.view_is) at c.requires.alive) in
-    let found = ap row_block (rw (c.table_above-table.ensures, c.deref.ensures.value) at c.get-found.ensures) in
-    let whole = footprint-with_length c.self.inside.pool.items c.self.inside.static_size c.args.row c.args.bytes c.self.invariant.0.dense l in
+    let pool = c.self.inside.pool.items in
+    let fronts = c.self.inside.fronts.items in
+    let p = c.self.inside.places in
+    let n = c.self.inside.static_size in
+    let l = lives pool p.table c.args.row (rw (← c.self.view_is) at c.requires.alive) in
+    let found = ap block_bytes (rw c.deref.ensures.value at c.get-found.ensures) in
+    let whole = footprint_length n pool fronts p c.args.row c.args.bytes c.self.invariant l in
     let seen = ap (λ h. footprint (with_length h.lists c.args.row c.args.bytes)) c.self.view_is in
     record {
-      whole = omega (
-        arith,
-        found,
-        whole,
-        seen,
-        c.block_bytes-had.ensures,
-        c.round4.ensures,
-        c.self.invariant.0.end_is,
-        block_ends c.self.inside.pool.items (round4 c.self.inside.static_size) c.args.row l.within,
-      );
+      whole = omega (arith, found, whole, seen, c.block_bytes.ensures, c.round4.ensures, block_inside n pool fronts p c.args.row c.self.invariant l.within);
       above = omega (arith, c.if-footprint-gt-POOL_BYTES.true);
     }
 
-living : (c : goal.After-deref_mut-2) → Lives c.self.inside.pool.items (round4 c.self.inside.static_size) c.args.row
-living c = lives c.self.inside.pool.items (round4 c.self.inside.static_size) c.args.row (rw (← c.self.view_is) at c.requires.alive)
+-- ---- a list that gets its bytes
 
-pub resize_block-requires-clause-above : goal.resize_block-requires-clause-above
-resize_block-requires-clause-above c = (living c).above
+pub resize_list-requires-clause-blocks : goal.resize_list-requires-clause-blocks
+resize_list-requires-clause-blocks c = rw (c.deref_mut.ensures.value, c.deref_mut-2.ensures.value) c.self.invariant.blocks
 
-pub resize_block-requires-clause-within : goal.resize_block-requires-clause-within
-resize_block-requires-clause-within c = rw (c.deref_mut.ensures.value, c.table_above-table.ensures) (living c).within
+pub resize_list-requires-clause-list : goal.resize_list-requires-clause-list
+resize_list-requires-clause-list c =
+    let pool = c.self.inside.pool.items in
+    let table = c.self.inside.places.table in
+    let l = lives pool table c.args.row (rw (← c.self.view_is) at c.requires.alive) in
+    let whole = rw (ap stride_of l.is) at (rw (← c.self.view_is) at c.requires.whole) in
+    rw c.deref_mut.ensures.value (list_row pool table c.args.row c.args.bytes l whole)
 
-pub resize_block-requires-clause-alive : goal.resize_block-requires-clause-alive
-resize_block-requires-clause-alive c = rw (c.deref_mut.ensures.value, c.table_above-table.ensures) (living c).stride
+pub resize_list-requires-clause-fits : goal.resize_list-requires-clause-fits
+resize_list-requires-clause-fits c =
+    let pool = c.self.inside.pool.items in
+    let fronts = c.self.inside.fronts.items in
+    let p = c.self.inside.places in
+    let n = c.self.inside.static_size in
+    let l = lives pool p.table c.args.row (rw (← c.self.view_is) at c.requires.alive) in
+    let found = ap block_bytes (rw c.deref.ensures.value at c.get-found.ensures) in
+    rw c.deref_mut.ensures.value
+    (omega (arith, found, c.block_bytes.ensures, c.round4.ensures, c.if-footprint-gt-POOL_BYTES.false, block_inside n pool fronts p c.args.row c.self.invariant l.within))
 
-pub resize_block-requires-clause-whole : goal.resize_block-requires-clause-whole
-resize_block-requires-clause-whole c =
-    rw (c.deref_mut.ensures.value, c.table_above-table.ensures) (rw ((living c).is) at (rw (← c.self.view_is) at c.requires.whole))
-
--- ---- at the return
-
-items : (c : goal.After-self-3-1) → (with_items c.self.inside.pool c.resize_block.new.pool).items ≡ c.resize_block.new.pool
-items c = with_items_is c.self.inside.pool c.resize_block.new.pool (c.resize_block.auto.pool ∙ c.deref_mut.ensures.len)
-
-lived : (c : goal.After-self-3-1) → Lives c.self.inside.pool.items (round4 c.self.inside.static_size) c.args.row
-lived c = lives c.self.inside.pool.items (round4 c.self.inside.static_size) c.args.row (rw (← c.self.view_is) at c.requires.alive)
-
-spared : (c : goal.After-self-3-1) → (with_items c.self.inside.spare c.resize_block.new.spare).items ≡ c.resize_block.new.spare
-spared c = with_items_is c.self.inside.spare c.resize_block.new.spare (c.resize_block.auto.spare ∙ c.deref_mut-2.ensures.len)
+has : (c : goal.After-self-2-1) → HasLength c.self.inside.pool.items c.resize_list.new.pool c.resize_list.new.fronts c.self.inside.places c.resize_list.new.at c.args.row c.args.bytes
+has c = rw c.deref_mut.ensures.value at c.resize_list.ensures
 
 pub invariant_of-self : goal.invariant_of-self
 invariant_of-self c =
-    let dense = rw c.table_above-table.ensures at c.resize_block.ensures.dense in
-    let ends = rw (c.deref_mut.ensures.value, c.table_above-table.ensures) at c.resize_block.ensures.end in
-    let found = ap row_block (rw (c.table_above-table.ensures, c.deref.ensures.value) at c.get-found.ensures) in
-    let within = block_ends c.self.inside.pool.items (round4 c.self.inside.static_size) c.args.row (lived c).within in
-    rw (items c) (
-      record {
-        dense = dense;
-        end_is = omega (arith, ends, found, within, c.block_bytes-had.ensures, c.round4.ensures, c.self.invariant.0.end_is);
-      },
-      ap length (spared c) ∙ c.resize_block.auto.spare ∙ ap length c.deref_mut-2.ensures.value ∙ c.self.invariant.1,
-    )
+    let pool = c.self.inside.pool.items in
+    let fronts = c.self.inside.fronts.items in
+    let p = c.self.inside.places in
+    let n = c.self.inside.static_size in
+    let items = with_items_is c.self.inside.pool c.resize_list.new.pool (c.resize_list.auto.pool ∙ c.deref_mut.ensures.len) in
+    let noted = with_items_is c.self.inside.fronts c.resize_list.new.fronts (c.resize_list.auto.fronts ∙ c.deref_mut-2.ensures.len) in
+    rw (items, noted) (still_heap n pool c.resize_list.new.pool fronts c.resize_list.new.fronts p c.resize_list.new.at c.self.invariant (has c).blocks (has c).base)
 
-state : (c : goal.After-self-3-1) → state_of c.self.inside.static_size c.resize_block.new.pool ≡ with_length c.args.self.now.lists c.args.row c.args.bytes
+state : (c : goal.After-self-2-1) → shown c.self.inside.static_size c.resize_list.new.pool c.resize_list.new.at ≡ with_length c.args.self.now.lists c.args.row c.args.bytes
 state c =
-    let lists = rw (c.deref_mut.ensures.value, c.table_above-table.ensures) at c.resize_block.ensures.lists in
-    let below = rw (c.deref_mut.ensures.value, c.table_above-table.ensures) at c.resize_block.ensures.below in
-    let static = static-kept c.self.inside.pool.items c.resize_block.new.pool c.self.inside.static_size c.self.invariant.0.dense
-    (c.resize_block.auto.pool ∙ ap length c.deref_mut.ensures.value) below in
-    state-with_length c.self.inside.pool.items c.resize_block.new.pool c.self.inside.static_size c.args.row c.args.bytes c.self.invariant.0.dense (lived c) static lists
+    let pool = c.self.inside.pool.items in
+    let fronts = c.self.inside.fronts.items in
+    let p = c.self.inside.places in
+    let n = c.self.inside.static_size in
+    after_length n pool c.resize_list.new.pool fronts c.resize_list.new.fronts p c.resize_list.new.at c.args.row c.args.bytes c.self.invariant (has c)
     ∙ ap (λ h. with_length h.lists c.args.row c.args.bytes) c.self.view_is
 
 pub returns-clause-ok : goal.returns-clause-ok
-returns-clause-ok c = rw (items c) (state c)
+returns-clause-ok c = rw (with_items_is c.self.inside.pool c.resize_list.new.pool (c.resize_list.auto.pool ∙ c.deref_mut.ensures.len)) (state c)
 
 pub returns-clause-fits : goal.returns-clause-fits
 returns-clause-fits c =
-    let dense = rw c.table_above-table.ensures at c.resize_block.ensures.dense in
-    let whole = footprint-state c.self.inside.static_size c.resize_block.new.pool dense in
-    let seen = ap footprint (state c) in
-    omega (arith, whole, seen, dense.fits)
+    let pool = c.self.inside.pool.items in
+    let fronts = c.self.inside.fronts.items in
+    let p = c.self.inside.places in
+    let n = c.self.inside.static_size in
+    let then = still_heap n pool c.resize_list.new.pool fronts c.resize_list.new.fronts p c.resize_list.new.at c.self.invariant (has c).blocks (has c).base in
+    omega (
+      arith,
+      ap footprint (state c),
+      footprint_state n c.resize_list.new.pool c.resize_list.new.fronts c.resize_list.new.at then,
+      footprint_inside n c.resize_list.new.pool c.resize_list.new.fronts c.resize_list.new.at then,
+    )

@@ -1,16 +1,15 @@
-use Rattle.std.proofs.Common.{◌∙◌, sym, ap, length, arith}
-use Rattle.nxt_types.specs.Pool.{round4}
-use Rattle.nxt_heap.proofs.Lists.OfPool.{length-lists_in}
-use Rattle.nxt_heap.proofs.Pool.Places.{table_within}
+use Rattle.std.proofs.Common.{◌∙◌, sym, ap, length}
+use Rattle.nxt_heap.proofs.ListsKept.{length-lists_in}
+use Rattle.nxt_heap.proofs.Seen.{row_inside}
 use Rattle.nxt_heap.proofs.heap.Heap.row_count.Goals as goal
 
 pub get-requires : goal.get-requires
 get-requires c =
-    let within = table_within c.self.inside.pool.items (round4 c.self.inside.static_size) c.self.invariant.0.dense in
-    rw (c.table_above.ensures, c.deref.ensures.value) (omega (arith, within, c.self.invariant.0.dense.some))
+    let p = c.self.invariant.blocks.is_pool in
+    rw c.deref.ensures.value (row_inside c.self.inside.pool.items c.self.inside.places.table c.self.inside.places.base 0 p p.sound.some)
 
 pub returns-clause-rows : goal.returns-clause-rows
 returns-clause-rows c =
-    ap (λ r. r.count) (rw (c.table_above.ensures, c.deref.ensures.value) at c.get.ensures)
-    ∙ sym (length-lists_in c.self.inside.pool.items (round4 c.self.inside.static_size))
+    ap (λ r. r.count) (rw c.deref.ensures.value at c.get.ensures)
+    ∙ sym (length-lists_in c.self.inside.pool.items c.self.inside.places.table)
     ∙ ap (λ h. length h.lists.by_row) c.self.view_is

@@ -1,7 +1,7 @@
 -- A list that has got its length and then its bytes.
 use Rattle.std.proofs.Common.{◌∙◌, ap}
 use Rattle.nxt_heap.specs.Lists.{with_bytes}
-use Rattle.nxt_heap.proofs.Lists.Changes.{stored_whole}
+use Rattle.nxt_heap.proofs.Changed.{stored_whole}
 use Rattle.nxt_heap.proofs.heap.Heap.set_list.Goals as goal
 
 pub returns-clause-ok : goal.returns-clause-ok

@@ -1,7 +1,7 @@
 -- A list that has got its length, then the bytes, and then the zero.
 use Rattle.std.proofs.Common.{◌∙◌, ◌∷◌, [], ap, length}
 use Rattle.nxt_heap.specs.Lists.{with_bytes}
-use Rattle.nxt_heap.proofs.Lists.Changes.{stored_text}
+use Rattle.nxt_heap.proofs.Changed.{stored_text}
 use Rattle.nxt_heap.proofs.heap.Heap.set_text.Goals as goal
 
 pub returns-clause-ok : goal.returns-clause-ok

@@ -1,0 +1,14 @@
+use Rattle.std.proofs.Common.{arith}
+use Rattle.nxt_rows.specs.Rows.{dope_row}
+use Rattle.nxt_compact.specs.Pools.{block_bytes}
+use Rattle.nxt_heap.proofs.Rooms.{smaller_hole, moved_room}
+use Rattle.nxt_heap.proofs.blocks.place_longer.Goals as goal
+
+pub move_to-requires-clause-hole : goal.move_to-requires-clause-hole
+move_to-requires-clause-hole c =
+    smaller_hole c.args.pool.now c.args.at.now.table c.in-Some.place c.args.bytes (block_bytes (dope_row c.args.pool.now c.args.at.now.table c.args.row)) (omega (arith, c.requires.longer)) c.in-Some.ensures.some.hole
+
+pub returns-in-Some-clause-room : goal.returns-in-Some-clause-room
+returns-in-Some-clause-room c =
+    rw c.move_to.ensures.base
+    (moved_room c.args.pool.now c.move_to.new.pool c.args.at.now.table c.move_to.new.at.table c.args.at.now.base c.args.row c.args.bytes c.in-Some.place c.requires.blocks.is_pool c.requires.full c.requires.longer c.in-Some.ensures.some c.move_to.ensures.moves)

@@ -1,0 +1,17 @@
+use Rattle.std.proofs.Common.{refl}
+use Rattle.nxt_compact.proofs.Going.{no_moves}
+use Rattle.nxt_heap.proofs.Rooms.{hole_room, top_room}
+use Rattle.nxt_heap.proofs.blocks.place_new.Goals as goal
+
+pub returns-in-Some-clause-moves : goal.returns-in-Some-clause-moves
+returns-in-Some-clause-moves c = ((λ p. p), record { blocks = c.requires.blocks; moves = no_moves c.args.at.now.base c.args.pool.now c.args.at.now.table; base = refl; footprint = refl })
+
+pub returns-in-Some-clause-room : goal.returns-in-Some-clause-room
+returns-in-Some-clause-room c = hole_room c.args.pool.now c.args.at.now.table c.args.at.now.base c.args.row c.args.bytes c.in-Some.place c.requires.empty c.in-Some.ensures.some
+
+pub returns-in-None-clause-room : goal.returns-in-None-clause-room
+returns-in-None-clause-room c =
+    let b = c.requires.blocks in
+    let s = c.settle.ensures in
+    rw (s.moves.base, s.moves.footprint, b.footprint_is)
+    (top_room c.args.pool.now c.settle.new.pool c.args.at.now.table c.settle.new.at.table c.args.at.now.base c.args.row c.args.bytes c.settle.result b.is_pool b.word c.requires.may c.requires.empty s.compacts)
