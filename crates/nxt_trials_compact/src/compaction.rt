@@ -10,7 +10,13 @@ use std::process::Abort;
 use std::test::Fail;
 
 /// Compacts a pool by up to `k` blocks, compares it with what is due, and gives the number of blocks that moved.
-pub fn check(rt: &impl Abort, alloc: Global, old: Held, base: u32, k: u16) -> Result<u16, Fail> {
+pub(crate) fn check(
+    rt: &impl Abort,
+    alloc: Global,
+    old: Held,
+    base: u32,
+    k: u16,
+) -> Result<u16, Fail> {
     let blocks = blocks_of(rt, alloc, old.pool, old.table)?;
     let (_, gaps) = settled(rt, alloc, blocks.as_slice(), base, u16::MAX)?;
     let (after, moved) = settled(rt, alloc, blocks.as_slice(), base, k)?;

@@ -11,7 +11,12 @@ use std::test::Fail;
 pub type Blocks = Vec<(u64, u64)>;
 
 /// The place and the bytes of each row.
-pub fn blocks_of(rt: &impl Abort, alloc: Global, pool: &[u8], table: u32) -> Result<Blocks, Fail> {
+pub(crate) fn blocks_of(
+    rt: &impl Abort,
+    alloc: Global,
+    pool: &[u8],
+    table: u32,
+) -> Result<Blocks, Fail> {
     let mut blocks = Vec::new(alloc);
     for row in 0..rows_of(rt, pool, table) {
         let found = row_of(rt, pool, table, row);
@@ -33,7 +38,7 @@ fn in_order(alloc: Global, blocks: &[(u64, u64)]) -> Result<Vec<(u64, usize)>, F
 }
 
 /// The blocks once the lowest `k` of those with a gap below stand at the end of the one before, and how many moved.
-pub fn settled(
+pub(crate) fn settled(
     rt: &impl Abort,
     alloc: Global,
     blocks: &[(u64, u64)],
@@ -55,7 +60,7 @@ pub fn settled(
 }
 
 /// The blocks without gaps, and those that began above a block so many bytes higher.
-pub fn slid(
+pub(crate) fn slid(
     rt: &impl Abort,
     alloc: Global,
     blocks: &[(u64, u64)],
@@ -76,7 +81,7 @@ pub fn slid(
 }
 
 /// The bytes of all blocks together.
-pub fn total(blocks: &[(u64, u64)]) -> u64 {
+pub(crate) fn total(blocks: &[(u64, u64)]) -> u64 {
     let mut sum: u64 = 0;
     for &(_, bytes) in blocks {
         sum = sum.saturating_add(bytes);
@@ -105,7 +110,7 @@ fn expect_row(rt: &impl Abort, old: Held, new: Held, row: u16, place: u64) -> Do
 }
 
 /// Each block stands at its place with its bytes, and nothing else of the rows and no static byte has changed.
-pub fn expect_moved(rt: &impl Abort, old: Held, new: Held, base: u32, after: &[(u64, u64)]) {
+pub(crate) fn expect_moved(rt: &impl Abort, old: Held, new: Held, base: u32, after: &[(u64, u64)]) {
     assert_eq!(rt; new.pool.len(), old.pool.len());
     assert_eq!(rt;
         new.pool.get(..base as usize),

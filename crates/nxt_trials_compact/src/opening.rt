@@ -11,7 +11,7 @@ use std::process::Abort;
 use std::test::Fail;
 
 /// Opens room for so many bytes at a row's place, and compares the pool with what is due.
-pub fn check(
+pub(crate) fn check(
     rt: &impl Abort,
     alloc: Global,
     old: Held,

@@ -18,13 +18,13 @@ pub struct Pool<'a> {
 }
 
 /// A row of the table.
-pub fn row_of(rt: &impl Abort, pool: &[u8], table: u32, row: u16) -> DopeRow {
+pub(crate) fn row_of(rt: &impl Abort, pool: &[u8], table: u32, row: u16) -> DopeRow {
     assert!(rt; table as usize + 10 * (row as usize + 1) <= pool.len());
     get(pool, table, row)
 }
 
 /// How many rows the table has.
-pub fn rows_of(rt: &impl Abort, pool: &[u8], table: u32) -> u16 {
+pub(crate) fn rows_of(rt: &impl Abort, pool: &[u8], table: u32) -> u16 {
     row_of(rt, pool, table, 0).count
 }
 
@@ -47,7 +47,7 @@ fn put_row(rt: &impl Abort, pool: &mut [u8], table: u16, row: u16, list: List) {
 }
 
 /// The bytes of the pool. Those that are in no row differ from place to place.
-pub fn built(rt: &impl Abort, alloc: Global, pool: &Pool) -> Result<Vec<u8>, Fail> {
+pub(crate) fn built(rt: &impl Abort, alloc: Global, pool: &Pool) -> Result<Vec<u8>, Fail> {
     let mut bytes = Vec::new(alloc);
     for at in 0..pool.size {
         bytes.push((at % 251) as u8)?;

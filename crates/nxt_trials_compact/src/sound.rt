@@ -61,7 +61,7 @@ fn is_table(pool: &[u8], table: u32) -> bool
 
 /// Whether row 0 tells where the table stands, and the blocks share no byte and lie between the static bytes and the
 /// pool's end.
-pub fn is_sound(pool: &[u8], table: u32, base: u32) -> bool
+pub(crate) fn is_sound(pool: &[u8], table: u32, base: u32) -> bool
     ensures { result ≡ true → IsSound pool.now table base }
 {
     if pool.len() > 65_536 || !is_table(pool, table) {
@@ -83,7 +83,7 @@ pub fn is_sound(pool: &[u8], table: u32, base: u32) -> bool
 }
 
 /// Whether the pool holds the blocks with so many bytes in the row's one.
-pub fn has_room(pool: &[u8], table: u32, base: u32, row: u16, bytes: u32) -> bool
+pub(crate) fn has_room(pool: &[u8], table: u32, base: u32, row: u16, bytes: u32) -> bool
     requires { IsSound pool.now table base }
     ensures { result ≡ true → HasRoom pool.now table base row bytes }
 {
