@@ -2,9 +2,10 @@
 
 ghost use Rattle.nxt_model.specs.Devices.{Devices};
 ghost use Rattle.nxt_model.specs.SystemCalls.{Clock};
+ghost use Rattle.nxt_space.specs.Keeping.{Leaves};
 ghost use Rattle.nxt_space.specs.Outcomes.{Does};
 ghost use Rattle.nxt_operands.specs.Operands.{Done};
-ghost use Rattle.std.specs.Prelude.{◌≡◌, ◌+◌, ◌<◌, ◌^◌, length, slice_range};
+ghost use Rattle.std.specs.Prelude.{◌≡◌, ◌+◌, ◌<◌, ◌^◌, length, slice_range, ◌∷◌, []};
 ghost use Rattle.nxt_types.specs.Statements.{IsWhole};
 ghost use Rattle.nxt_arrays.specs.Arrays.{CanRun, values_after, runs as does_run};
 
@@ -51,7 +52,8 @@ pub fn run_array(
     space: &mut Space,
 ) -> Result<(), OpFault>
     requires { CanRun i.now words.now toc.now space.old.vars }
-    ensures { (d : Devices) (t : Clock) → Does Done (values_after space.old.vars i.now words.now d t) space.old result space.new }
+    ensures does { (d : Devices) (t : Clock) → Does Done (values_after space.old.vars i.now words.now d t) space.old result space.new }
+    ensures leaves { Leaves (i.now.a ∷ []) space.old space.new }
 {
     match i.op {
         Op::Index => index(alloc, space, i.a, i.b, i.c),

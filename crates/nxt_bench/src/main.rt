@@ -1,8 +1,12 @@
-//! Times of `Space` by itself: one call, a million times over. The word tells which, by its first letter.
+//! Times of `Space` by itself: one call, a million times over, or compactions. The word tells which, by its first letter.
 #![tactic(auto)]
 
+mod blocks;
+
+use blocks::{MANY, compacted};
 use nxt_images::{ARRAY, EMPTY, Image, SLONG, layout_of};
 use nxt_space::Space;
+use std::alloc::Global;
 use std::env;
 use std::process::ExitCode;
 use std::rt::Env;
@@ -68,14 +72,18 @@ fn added(space: &mut Space, times: u32) {
     }
 }
 
-fn work(rt: &HostRuntime, which: u8, times: u32) -> Result<u32, Fail> {
-    let layout = layout_of(rt.alloc(), &VARIABLES)?;
-    let mut space = Space::new(rt.alloc(), &layout)?;
+fn work(alloc: Global, which: u8, times: u32) -> Result<u32, Fail> {
+    let layout = layout_of(alloc, &VARIABLES)?;
+    let mut space = Space::new(alloc, &layout)?;
     match which {
         b'c' => copies(&mut space, times),
         b'r' => replaced(&mut space, times),
         b'a' => added(&mut space, times),
         b'i' => return Ok(indexed(&space, times)),
+        b'm' => return compacted(alloc, MANY, 1_000, 65_535),
+        b'n' => return compacted(alloc, MANY, 1_000, 0),
+        b'f' => return compacted(alloc, 10, 100_000, 65_535),
+        b'g' => return compacted(alloc, 10, 100_000, 0),
         _ => {}
     }
     Ok(space.footprint())
@@ -96,6 +104,6 @@ fn letter(rt: &HostRuntime) -> u8 {
 
 fn main(rt: HostRuntime) -> Result<ExitCode, Fail> {
     let which = letter(&rt);
-    let sum = work(&rt, which, 1_000_000)?;
+    let sum = work(rt.alloc(), which, 1_000_000)?;
     Ok(ExitCode::from(u8::from(sum == 1)))
 }

@@ -1,12 +1,3 @@
--- Sums over the elements of a list.
-pub mod Sums
--- Blocks that share no byte fit the space that holds them.
-pub mod Packing
--- Settling the blocks below a place, and the k lowest unsettled ones.
-pub mod Settling
-pub mod Lowest
--- One turn of a loop over blocks in the order of their places.
-pub mod Walking
--- Room for a longer block.
-pub mod Growing
+-- What the crates above may use.
+pub mod Laws
 mod Examples

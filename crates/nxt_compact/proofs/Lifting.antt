@@ -6,7 +6,7 @@ use Rattle.nxt_rows.specs.Rows.{dope_row, row_count}
 use Rattle.nxt_rows.proofs.Laws.Writes.{dope_row-kept}
 use Rattle.nxt_compact.specs.Pools.{block_bytes, IsFull, Moves, row_at}
 use Rattle.nxt_compact.specs.Steps.{up_from, IsLiftable}
-use Rattle.nxt_compact.proofs.Shifted.{dope_row-shifted, bytes_of_table}
+use Rattle.nxt_compact.proofs.Laws.Shifted.{dope_row-shifted, bytes_of_table}
 
 pub up_low : (above more p : ℕ) → p < above → up_from above more p ≡ p
 up_low above more p l = ap (λ t. cond t p (p + more)) (lt-ltb p above l)

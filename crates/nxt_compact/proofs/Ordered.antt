@@ -10,15 +10,15 @@ use Rattle.std.proofs.lemmas.List.Sorted.{All-permutation, Contains-permutation}
 use Rattle.std.proofs.lemmas.Map.Keys.{IsDistinct-from_apart, IsDistinct-IsPermutation, IsStrictlyIncreasing-from_distinct}
 use Rattle.nxt_rows.specs.Rows.{dope_row, row_count, IsTable}
 use Rattle.nxt_blocks.specs.Standing.{settled_place}
-use Rattle.nxt_blocks.proofs.Packing.{packed-next, packed-more}
-use Rattle.nxt_blocks.proofs.Settling.{settled_yes, settled_no, block_packed-le}
-use Rattle.nxt_blocks.proofs.Walking.{IsLowest}
+use Rattle.nxt_blocks.proofs.Laws.Packing.{packed-next, packed-more}
+use Rattle.nxt_blocks.proofs.Laws.Settling.{settled_yes, settled_no, block_packed-le}
+use Rattle.nxt_blocks.proofs.Laws.Walking.{IsLowest}
 use Rattle.nxt_compact.specs.Pools.{block_bytes, block_of, blocks_in, IsSound, IsFull}
 use Rattle.nxt_compact.specs.Orders.{block_key, IsKey, Listed, IsOrder}
-use Rattle.nxt_compact.proofs.Shifted.{bytes_of_table}
-use Rattle.nxt_compact.proofs.InPool.{full_in, in_full, standing}
+use Rattle.nxt_compact.proofs.Laws.Shifted.{bytes_of_table}
+use Rattle.nxt_compact.proofs.Laws.InPool.{full_in, in_full, standing}
 use Rattle.nxt_compact.proofs.Next.{IsNext}
-use Rattle.nxt_compact.proofs.Going.{Going, first_full, place_moved, moved_full, full_before}
+use Rattle.nxt_compact.proofs.Laws.Going.{Going, first_full, place_moved, moved_full, full_before}
 
 pub few_rows : (pool : List ℕ) (table base : ℕ) → IsSound pool table base → row_count pool table ≤ 6553
 few_rows pool table base s = omega (arith, bytes_of_table (dope_row pool table 0) s.stride, s.within 0 (first_full pool table base s), s.size)

@@ -23,8 +23,12 @@ pub enum ReadAllFault {
 
 const BUFFER: usize = 4096;
 
-// Reads once, and adds what came. The count 0 is the end.
-fn read_some<S: Source>(source: &mut S, bytes: &mut Bytes, room: usize) -> Result<usize, ReadFault>
+/// Reads once, at most so many bytes and at most 4,096, and adds what came. The count 0 is the end.
+pub fn read_some<S: Source>(
+    source: &mut S,
+    bytes: &mut Bytes,
+    room: usize,
+) -> Result<usize, ReadFault>
     requires room { 0 < room }
     ensures count { IfOk result (λ n. (n ≤ room) × (length bytes.new ≡ length bytes.old + n)) }
     ensures taken { OnOk result ((more : List ℕ) × (bytes.new ≡ bytes.old ++ more) × Consumes (S.left source.old) (S.left source.new) more) }

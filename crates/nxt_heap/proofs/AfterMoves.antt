@@ -4,12 +4,12 @@ use Rattle.std.specs.List.{list_any}
 use Rattle.std.proofs.lemmas.Bool.{cases_eq}
 use Rattle.nxt_blocks.specs.Blocks.{total}
 use Rattle.nxt_blocks.specs.Standing.{IsApart}
-use Rattle.nxt_blocks.proofs.Settling.{moved-total}
+use Rattle.nxt_blocks.proofs.Laws.Settling.{moved-total}
 use Rattle.nxt_rows.specs.Rows.{dope_row, row_count, free_rows}
 use Rattle.nxt_compact.specs.Pools.{block_bytes, blocks_in, IsFull, IsSound, Moves}
-use Rattle.nxt_compact.proofs.Compacted.{moved_blocks}
-use Rattle.nxt_compact.proofs.Going.{first_full, full_before, moved_full, place_moved, bytes_moved}
-use Rattle.nxt_compact.proofs.Moving.{row_stays}
+use Rattle.nxt_compact.proofs.Laws.Compacted.{moved_blocks}
+use Rattle.nxt_compact.proofs.Laws.Going.{first_full, full_before, moved_full, place_moved, bytes_moved}
+use Rattle.nxt_compact.proofs.Laws.Moving.{row_stays}
 use Rattle.nxt_heap.specs.Inside.Pool.{list_in, lists_in, IsPool}
 use Rattle.nxt_heap.proofs.ListsKept.{free_rows-kept, IsFreeChain-kept, list_in-first, list_in-moved, same_lists_in}
 use Rattle.nxt_heap.proofs.Windows.{block-none, row_bytes-none}
@@ -83,6 +83,9 @@ module _ (base : ℕ) (to : ℕ → ℕ) (old new : List ℕ) (table table' : �
           bare = λ r above within none.
               let inside : r < row_count old table = omega (arith, within, count) in
               ap (λ d. d.count) (m.rows r inside) ∙ p.bare r above inside (sym (moved_stride r inside) ∙ none);
+          backs = λ r within.
+              let inside : r < row_count old table = omega (arith, within, count) in
+              ap (λ d. d.back) (m.rows r inside) ∙ p.backs r inside;
           chain = IsFreeChain-kept old new table table' p.chain count (free_moved p);
           free = λ r above within.
               let inside : r < row_count old table = omega (arith, within, count) in

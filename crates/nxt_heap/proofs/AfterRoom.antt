@@ -1,7 +1,7 @@
 -- A list that is given another length, once its block has room.
 use Rattle.std.proofs.Common.{ℕ, ◌%◌, List, ap, sym, ◌∙◌, arith}
 use Rattle.nxt_compact.specs.Pools.{IsSound}
-use Rattle.nxt_compact.proofs.Going.{bytes_moved}
+use Rattle.nxt_compact.proofs.Laws.Going.{bytes_moved}
 use Rattle.nxt_heap.specs.declared.blocks.Places.{Places}
 use Rattle.nxt_heap.specs.Inside.Pool.{AreBlocks, BlocksMove, IsListRow, HasLength, with_length_in}
 use Rattle.nxt_heap.proofs.AfterMoves.{moved_count, moved_stride, lists_moved}

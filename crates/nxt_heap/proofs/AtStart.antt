@@ -9,7 +9,7 @@ use Rattle.nxt_rows.specs.Rows.{dope_row, row_count, free_rows, no_place, IsFree
 use Rattle.nxt_rows.proofs.Laws.FreeRows.{free_rows-none, IsFreeChain-none}
 use Rattle.nxt_blocks.specs.Blocks.{total}
 use Rattle.nxt_compact.specs.Pools.{block_bytes, blocks_in, IsFull}
-use Rattle.nxt_compact.proofs.Opening.{bytes_before, before_next, before_all}
+use Rattle.nxt_compact.proofs.Laws.Opening.{bytes_before, before_next, before_all}
 use Rattle.nxt_heap.specs.Inside.Pool.{list_in, lists_in, IsPool, IsEnd}
 use Rattle.nxt_heap.proofs.ListsKept.{list_in-first, list_in-none, length-lists_in, lists_in-at}
 use Rattle.nxt_heap.proofs.Windows.{block_is, block-none, row_bytes-free}
@@ -28,6 +28,7 @@ pub record Freed (pool : List ℕ) (table rows row : ℕ) : Type 0 where
   pub strides : (q : ℕ) → 0 < q → q < rows → (dope_row pool table q).stride ≡ 0
   pub counts : (q : ℕ) → 0 < q → q < rows → (dope_row pool table q).count ≡ 0
   pub places : (q : ℕ) → row ≤ q → q < rows → (dope_row pool table q).place ≡ no_place
+  pub backs : (q : ℕ) → q < rows → (dope_row pool table q).back ≡ 0
   pub zeros : (k : ℕ) → k < table → get_or pool k 0 ≡ 0
 
 -- ---- before a row is free
@@ -59,6 +60,10 @@ Freed-start blank pool table rows link some size zeros first others below =
       strides = λ q above within. ap (λ r. r.stride) (empty q above);
       counts = λ q above within. ap (λ r. r.count) (empty q above);
       places = λ q low high. absurd (omega arith);
+      backs = λ q within. elim (cases_eq q 0) [
+        | inl e ↦ ap (λ k. (dope_row pool table k).back) e ∙ ap (λ r. r.back) first
+        | inr other ↦ ap (λ r. r.back) (empty q (omega (arith, other)))
+      ];
       zeros = λ k low. below k low ∙ zeros k;
     }
 
@@ -93,6 +98,7 @@ module _ (pool : List ℕ) (table rows : ℕ) (f : Freed pool table rows 1) (fit
     words = λ r a. ap (λ q. (dope_row pool table q).place % 4) (only_first r a) ∙ ap (λ n. n % 4) f.place ∙ word;
     empty = λ r above within none. f.places r above (omega (arith, f.count, within));
     bare = λ r above within none. f.counts r above (omega (arith, f.count, within));
+    backs = λ r within. f.backs r (omega (arith, f.count, within));
     chain = f.chain;
     free = λ r above within.
         let less : r < rows = omega (arith, f.count, within) in

@@ -7,8 +7,8 @@ use Rattle.nxt_types.specs.Pool.{pool_size}
 use Rattle.nxt_rows.specs.Rows.{dope_row, row_count}
 use Rattle.nxt_rows.specs.declared.DopeRow.{DopeRow}
 use Rattle.nxt_compact.specs.Pools.{block_bytes, IsFull}
-use Rattle.nxt_compact.proofs.Going.{first_full}
-use Rattle.nxt_compact.proofs.Shifted.{bytes_of_table}
+use Rattle.nxt_compact.proofs.Laws.Going.{first_full}
+use Rattle.nxt_compact.proofs.Laws.Shifted.{bytes_of_table}
 use Rattle.nxt_heap.specs.Inside.Pool.{IsPool, AreFronts, AreOtherFronts, AreFrontsBefore, IsFrontIn, IsEndBelow, IsHole, IsClean, IsFit, words, no_row}
 
 -- ---- words

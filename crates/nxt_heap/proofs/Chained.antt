@@ -8,9 +8,9 @@ use Rattle.nxt_rows.specs.declared.DopeRow.{DopeRow}
 use Rattle.nxt_rows.specs.Rows.{dope_row, row_count, no_place, free_rows, IsFreeChain, IsTable, IsAlive, KeepsOthers, KeepsOutside}
 use Rattle.nxt_rows.proofs.Laws.Chains.{none_passes}
 use Rattle.nxt_compact.specs.Pools.{block_bytes, blocks_in, IsFull, IsSound}
-use Rattle.nxt_compact.proofs.Going.{first_full}
-use Rattle.nxt_compact.proofs.Opening.{bytes_before, before_next, before_all}
-use Rattle.nxt_compact.proofs.Shifted.{bytes_of_table}
+use Rattle.nxt_compact.proofs.Laws.Going.{first_full}
+use Rattle.nxt_compact.proofs.Laws.Opening.{bytes_before, before_next, before_all}
+use Rattle.nxt_compact.proofs.Laws.Shifted.{bytes_of_table}
 use Rattle.nxt_heap.specs.Lists.{ByteList}
 use Rattle.nxt_heap.specs.declared.blocks.Places.{Places}
 use Rattle.nxt_heap.specs.Inside.Pool.{row_bytes, list_in, lists_in, IsPool, IsEnd, AreFronts, AreBlocks}
@@ -25,6 +25,7 @@ pub record Swaps (old new : List ℕ) (table row : ℕ) : Type 0 where
   pub no_bytes : row_bytes (dope_row old table row) ≡ 0
   pub count : (dope_row new table row).count ≡ 0
   pub place : (dope_row new table row).place ≡ no_place
+  pub back : (dope_row new table row).back ≡ 0
   pub others : KeepsOthers old new table row
   pub outside : KeepsOutside old new table
   pub chain : IsFreeChain new table
@@ -35,6 +36,7 @@ pub record KeepsRow (old new : DopeRow) : Type 0 where
   pub place : new.place ≡ old.place
   pub stride : new.stride ≡ old.stride
   pub count : new.count ≡ old.count
+  pub back : new.back ≡ old.back
 
 module _ (old new : List ℕ) (table base row : ℕ) (p : IsPool old table base) (s : Swaps old new table row) where
   keeps : (q : ℕ) → q ≢ row → KeepsRow (dope_row old table q) (dope_row new table q)
@@ -43,10 +45,11 @@ module _ (old new : List ℕ) (table base row : ℕ) (p : IsPool old table base)
       place = ap (λ k. (dope_row new table k).place) first ∙ ap (λ r. r.place) s.others.first ∙ ap (λ k. (dope_row old table k).place) (sym first);
       stride = ap (λ k. (dope_row new table k).stride) first ∙ ap (λ r. r.stride) s.others.first ∙ ap (λ k. (dope_row old table k).stride) (sym first);
       count = ap (λ k. (dope_row new table k).count) first ∙ ap (λ r. r.count) s.others.first ∙ ap (λ k. (dope_row old table k).count) (sym first);
+      back = ap (λ k. (dope_row new table k).back) first ∙ ap (λ r. r.back) s.others.first ∙ ap (λ k. (dope_row old table k).back) (sym first);
     }
     | inr some ↦
         let same = s.others.others q some other in
-        record { place = ap (λ r. r.place) same; stride = ap (λ r. r.stride) same; count = ap (λ r. r.count) same }
+        record { place = ap (λ r. r.place) same; stride = ap (λ r. r.stride) same; count = ap (λ r. r.count) same; back = ap (λ r. r.back) same }
   ]
 
   pub swapped_count : row_count new table ≡ row_count old table
@@ -72,7 +75,10 @@ module _ (old new : List ℕ) (table base row : ℕ) (p : IsPool old table base)
   was : (q : ℕ) → IsFull new table q → IsFull old table q
   was q f = record { within = omega (arith, f.within, swapped_count); some = omega (arith, f.some, swapped_block q) }
 
-  stands : (q : ℕ) → IsFull old table q → (dope_row new table q).place ≡ (dope_row old table q).place
+  pub full_still : (q : ℕ) → IsFull old table q → IsFull new table q
+  full_still q f = record { within = omega (arith, f.within, swapped_count); some = omega (arith, f.some, swapped_block q) }
+
+  pub stands : (q : ℕ) → IsFull old table q → (dope_row new table q).place ≡ (dope_row old table q).place
   stands q f = (keeps q (not_own q f)).place
 
   pub swapped_others : SameOthers old new table table row
@@ -111,6 +117,10 @@ module _ (old new : List ℕ) (table base row : ℕ) (p : IsPool old table base)
     bare = λ q above within none. elim (cases_eq q row) [
       | inl same ↦ ap (λ k. (dope_row new table k).count) same ∙ s.count
       | inr other ↦ let k = keeps q other in k.count ∙ p.bare q above (omega (arith, within, swapped_count)) (sym k.stride ∙ none)
+    ];
+    backs = λ q within. elim (cases_eq q row) [
+      | inl same ↦ ap (λ k. (dope_row new table k).back) same ∙ s.back
+      | inr other ↦ (keeps q other).back ∙ p.backs q (omega (arith, within, swapped_count))
     ];
     chain = s.chain;
     free = λ q above within. s.free q above (omega (arith, swapped_count, within));

@@ -1,7 +1,7 @@
 -- What callers see of a heap where one list changes.
-use Rattle.std.proofs.Common.{◌≡◌, ◌≢◌, ℕ, zero, suc, ◌+◌, ◌*◌, ◌<◌, ◌≤◌, List, [], ◌∷◌, ◌++◌, length, take, drop, get_or, sum_by, set, Option, Some, None, IsSome, false, refl, ap, ap₂, sym, subst, ◌∙◌, arith, inl, inr, length-append, length-set}
+use Rattle.std.proofs.Common.{◌≡◌, ◌≢◌, ℕ, ◌+◌, ◌*◌, ◌<◌, ◌≤◌, List, [], ◌∷◌, ◌++◌, length, take, drop, get_or, sum_by, Option, Some, None, IsSome, false, refl, ap, ap₂, sym, subst, ◌∙◌, arith, inl, inr, length-append, length-set}
 use Rattle.std.proofs.lemmas.Bool.{cases_eq, cases_lt, false≢true}
-use Rattle.std.proofs.lemmas.List.{append-nil, get_or_past, get_or-set_same, get_or-set_other, set-get_or}
+use Rattle.std.proofs.lemmas.List.{append-nil, get_or_past, get_or-set_same, get_or-set_other, set-get_or, set-set}
 use Rattle.std.proofs.lemmas.List.Sums.{sum_by-append}
 use Rattle.std.proofs.Math.ListN.{drop_of_length-le}
 use Rattle.std.proofs.Math.Seq.{take-append_seam}
@@ -10,7 +10,7 @@ use Rattle.nxt_facts.proofs.PutAt.{put_at-whole, length-put_at}
 use Rattle.nxt_types.specs.Pool.{round4, pool_size}
 use Rattle.nxt_rows.specs.Rows.{dope_row, row_count}
 use Rattle.nxt_compact.specs.Pools.{block_bytes, IsSound}
-use Rattle.nxt_compact.proofs.Opening.{before_most}
+use Rattle.nxt_compact.proofs.Laws.Opening.{before_most}
 use Rattle.nxt_heap.specs.declared.blocks.Places.{Places}
 use Rattle.nxt_heap.specs.Lists.{ByteList, Lists, list_at, block_of, footprint, with_list, with_length, of_length, stride_at, bytes_at, with_bytes, IsFree, any_free, with_free, with_free_row, empty_list, stride_of, bytes_of, with_these}
 use Rattle.nxt_heap.specs.Inside.Pool.{row_bytes, lists_in, state_of, AreBlocks, IsHeap, BlocksMove, HasLength, Frees, Takes, Stores}
@@ -128,11 +128,6 @@ alive_from pool table row above within stride =
 
 -- ---- a list in place of another
 
-set_set : {X : Type 0} (xs : List X) (i : ℕ) (a b : X) → set (set xs i a) i b ≡ set xs i b
-set_set [] i a b = refl
-set_set (x ∷ xs) zero a b = refl
-set_set (x ∷ xs) (suc i) a b = ap (λ ys. x ∷ ys) (set_set xs i a b)
-
 alive_below : (h : Lists) (row : ℕ) → IsSome (list_at h row) → row < length h.by_row
 alive_below h row alive =
     elim (cases_lt row (length h.by_row)) [
@@ -153,7 +148,7 @@ stored_whole h row bs alive =
     ap (λ ys. with_list g row (Some (record { stride = stride_at g row; bytes = ys }))) whole
     ∙ ap (λ s. with_list g row (Some (record { stride = s; bytes = bs }))) (ap stride_of at)
     ∙ ap (λ rows. record h { by_row = rows })
-    (set_set h.by_row row (Some (record { stride = stride_at h row; bytes = of_length (length bs) (bytes_at h row) })) (Some (record { stride = stride_at h row; bytes = bs })))
+    (set-set h.by_row row (Some (record { stride = stride_at h row; bytes = of_length (length bs) (bytes_at h row) })) (Some (record { stride = stride_at h row; bytes = bs })))
 
 -- ---- bytes with one behind them
 
@@ -188,8 +183,8 @@ stored_text h row bs alive =
     let stride : stride_at k row ≡ stride_at h row = ap stride_of then ∙ ap stride_of at in
     ap₂ (λ s ys. with_list k row (Some (record { stride = s; bytes = ys }))) stride bytes
     ∙ ap (λ rows. record h { by_row = rows })
-    (set_set g.by_row row (Some second) (Some (record { stride = stride_at h row; bytes = bs ++ 0 ∷ [] }))
-    ∙ set_set h.by_row row (Some first) (Some (record { stride = stride_at h row; bytes = bs ++ 0 ∷ [] })))
+    (set-set g.by_row row (Some second) (Some (record { stride = stride_at h row; bytes = bs ++ 0 ∷ [] }))
+    ∙ set-set h.by_row row (Some first) (Some (record { stride = stride_at h row; bytes = bs ++ 0 ∷ [] })))
 
 -- ---- as many bytes as there are
 

@@ -1,21 +1,21 @@
--- The front of the pool, to the end of the last block, holds what the pool holds.
-use Rattle.std.proofs.Common.{◌≡◌, ◌≢◌, ℕ, ◌+◌, ◌*◌, ◌<◌, ◌≤◌, List, [], ◌∷◌, length, take, drop, get_or, Some, None, refl, sym, ap, ap₂, ◌∙◌, arith, inl, inr, le-leb, length-take}
+-- What the pool holds, by rows as the memory of a file has them; and so does its front with all blocks.
+use Rattle.std.proofs.Common.{◌≡◌, ◌≢◌, ℕ, ◌+◌, ◌*◌, ◌<◌, ◌≤◌, List, [], ◌∷◌, length, take, drop, get_or, Some, None, refl, sym, subst, ap, ap₂, ◌∙◌, arith, inl, inr, le-leb, length-take}
 use Rattle.std.specs.Prelude.{fold, max}
 use Rattle.std.proofs.lemmas.Bool.{cases_lt, cases_eq, or_left, or_right}
 use Rattle.std.proofs.Math.Nat.{le-mul_of_pos_right}
-use Rattle.std.proofs.lemmas.List.{get_or_past, get_or-take}
+use Rattle.std.proofs.lemmas.List.{get_or_past, get_or-take, take_all}
 use Rattle.nxt_types.proofs.Laws.Pool.{le-round4}
 use Rattle.nxt_model.specs.Dump.{greatest_end}
 use Rattle.nxt_model.specs.Reading.{DopeRow, Block, AreApart}
 use Rattle.nxt_blocks.specs.Standing.{IsApart}
-use Rattle.nxt_blocks.proofs.Sums.{In}
+use Rattle.nxt_blocks.proofs.Laws.Sums.{In}
 use Rattle.nxt_rows.specs.declared.DopeRow.{DopeRow as Row}
 use Rattle.nxt_rows.specs.Rows.{dope_row, row_count}
 use Rattle.nxt_rows.proofs.Laws.Writes.{dope_row-kept}
 use Rattle.nxt_compact.specs.Pools.{block_bytes, block_of, blocks_in, IsFull}
-use Rattle.nxt_compact.proofs.Going.{first_full}
-use Rattle.nxt_compact.proofs.InPool.{full_in, in_full}
-use Rattle.nxt_compact.proofs.Shifted.{bytes_of_table}
+use Rattle.nxt_compact.proofs.Laws.Going.{first_full}
+use Rattle.nxt_compact.proofs.Laws.InPool.{full_in, in_full}
+use Rattle.nxt_compact.proofs.Laws.Shifted.{bytes_of_table}
 use Rattle.nxt_heap.specs.declared.blocks.Places.{Places}
 use Rattle.nxt_heap.specs.Dumps.{row_of, rows_of, IsRowOf, IsFilled, row_block, table_block, HoldHeap}
 use Rattle.nxt_heap.specs.Lists.{ByteList}
@@ -112,7 +112,7 @@ parts_apart a b c d first second apart = apart_from a b (elim apart [
 ])
 
 -- a list with elements has bytes
-some_bytes : (row : Row) → 0 < row.count → row.stride ≢ 0 → 0 < block_bytes row
+pub some_bytes : (row : Row) → 0 < row.count → row.stride ≢ 0 → 0 < block_bytes row
 some_bytes row some alive = omega (arith, le-mul_of_pos_right {m = row.stride} row.count (omega (arith, alive)), some, le-block row)
 
 -- the fields of a row that are read in two ways
@@ -121,72 +121,72 @@ record IsAs (row : DopeRow) (same : Row) : Type 0 where
   stride : row.stride ≡ same.stride
   count : row.count ≡ same.count
 
-module _ (static_size : ℕ) (pool fronts : List ℕ) (q : Places) (h : IsHeap static_size q pool fronts) where
-  -- the front of the pool
+-- the last block ends in the pool
+pub end_below : (static_size : ℕ) (pool fronts : List ℕ) (q : Places) → IsHeap static_size q pool fronts → q.end ≤ length pool
+end_below static_size pool fronts q h = omega (arith, end_inside pool q.table q.base q.end h.blocks.is_pool h.blocks.end_is, h.blocks.is_pool.size)
+
+-- so many bytes of the pool, with all blocks
+module _ (static_size : ℕ) (pool fronts : List ℕ) (q : Places) (h : IsHeap static_size q pool fronts) (n : ℕ) (past : q.end ≤ n) (inside : n ≤ length pool) where
   abbrev front : List ℕ
-  front = take q.end pool
+  front = take n pool
 
   -- ---- rows and lists of the front
 
   p : IsPool pool q.table q.base
   p = h.blocks.is_pool
 
-  end_fits : q.end ≤ length pool
-  end_fits = omega (arith, end_inside pool q.table q.base q.end p h.blocks.end_is, p.size)
+  static_fits : static_size ≤ n
+  static_fits = omega (arith, past, le-round4 static_size, h.base_is, base_below pool q.table q.base q.end p h.blocks.end_is)
 
-  static_fits : static_size ≤ q.end
-  static_fits = omega (arith, le-round4 static_size, h.base_is, base_below pool q.table q.base q.end p h.blocks.end_is)
+  pub length_front : length front ≡ n
+  length_front = omega (arith, length-take n pool, inside)
 
-  -- a dump ends where the last block does
-  pub length_dump : length front ≡ q.end
-  length_dump = omega (arith, length-take q.end pool, end_fits)
+  table_fits : q.table + 10 * row_count pool q.table ≤ n
+  table_fits = omega (arith, past, bytes_of_table (dope_row pool q.table 0) p.sound.stride, h.blocks.end_is.most 0 (first_full pool q.table q.base p.sound), p.sound.place)
 
-  table_fits : q.table + 10 * row_count pool q.table ≤ q.end
-  table_fits = omega (arith, bytes_of_table (dope_row pool q.table 0) p.sound.stride, h.blocks.end_is.most 0 (first_full pool q.table q.base p.sound), p.sound.place)
+  -- their rows are those of the pool
+  pub front_row : (r : ℕ) → r < row_count pool q.table → dope_row front q.table r ≡ dope_row pool q.table r
+  front_row r within = dope_row-kept pool front q.table r (λ k low high. get_or-take n pool k 0 (omega (arith, table_fits, within, high)))
 
-  -- its rows are those of the pool
-  pub dump_row : (r : ℕ) → r < row_count pool q.table → dope_row front q.table r ≡ dope_row pool q.table r
-  dump_row r within = dope_row-kept pool front q.table r (λ k low high. get_or-take q.end pool k 0 (omega (arith, table_fits, within, high)))
-
-  -- its lists too
-  pub lists_in_dump : lists_in front q.table ≡ lists_in pool q.table
-  lists_in_dump = same_lists_in pool front q.table q.table (ap (λ d. d.count) (dump_row 0 p.sound.some)) (λ r within.
-      let row = dump_row r within in
+  -- their lists too
+  pub lists_in_front : lists_in front q.table ≡ lists_in pool q.table
+  lists_in_front = same_lists_in pool front q.table q.table (ap (λ d. d.count) (front_row 0 p.sound.some)) (λ r within.
+      let row = front_row r within in
       list_in-moved pool front q.table q.table r (ap (λ d. d.stride) row) (ap (λ d. d.count) row) (λ some.
       let f : IsFull pool q.table r = record { within = within; some = some } in
       let most = h.blocks.end_is.most r f in
       let place : (dope_row front q.table r).place ≡ (dope_row pool q.table r).place = ap (λ d. d.place) row in
       record {
         from = p.sound.within r f;
-        to = omega (arith, place, most, length_dump);
-        bytes = λ k less. ap (λ n. get_or front (n + k) 0) place ∙ get_or-take q.end pool ((dope_row pool q.table r).place + k) 0 (omega (arith, most, less));
+        to = omega (arith, place, most, past, length_front);
+        bytes = λ k less. ap (λ m. get_or front (m + k) 0) place ∙ get_or-take n pool ((dope_row pool q.table r).place + k) 0 (omega (arith, most, past, less));
       }))
 
-  static_dump : take static_size front ≡ take static_size pool
-  static_dump =
-      same_window pool front 0 0 static_size (omega (arith, static_fits, end_fits)) (omega (arith, static_fits, length_dump))
-      (λ k below. get_or-take q.end pool (0 + k) 0 (omega (arith, static_fits, below)))
+  static_front : take static_size front ≡ take static_size pool
+  static_front =
+      same_window pool front 0 0 static_size (omega (arith, static_fits, inside)) (omega (arith, static_fits, length_front))
+      (λ k below. get_or-take n pool (0 + k) 0 (omega (arith, static_fits, below)))
 
-  -- so callers see the same in it
-  pub state_of_dump : state_of static_size (record { bytes = front; table = q.table }) ≡ state_of static_size (record { bytes = pool; table = q.table })
-  state_of_dump = rw (static_dump, lists_in_dump) refl
+  -- so callers see the same in them
+  pub state_of_front : state_of static_size (record { bytes = front; table = q.table }) ≡ state_of static_size (record { bytes = pool; table = q.table })
+  state_of_front = rw (static_front, lists_in_front) refl
 
   static_long : length (take static_size pool) ≡ static_size
   static_long = length_static static_size pool fronts q h
 
   static_there : take (length (take static_size pool)) front ≡ take static_size pool
-  static_there = ap (λ n. take n front) static_long ∙ static_dump
+  static_there = ap (λ m. take m front) static_long ∙ static_front
 
-  -- it shows the static bytes and the lists of the pool
-  pub shows_dump : Shows front q.table (state_of static_size (record { bytes = pool; table = q.table }))
-  shows_dump = record { static_bytes = static_there; by_row = lists_in_dump }
+  -- they show the static bytes and the lists of the pool
+  pub shows_front : Shows front q.table (state_of static_size (record { bytes = pool; table = q.table }))
+  shows_front = record { static_bytes = static_there; by_row = lists_in_front }
 
   -- ---- rows as the memory of a file has them
 
   same_row : (r : ℕ) → r < row_count pool q.table → IsAs (row_of front q.table r) (dope_row pool q.table r)
   unfolding dope_row
   same_row r within =
-      let same = dump_row r within in
+      let same = front_row r within in
       record { place = ap (λ d. d.place) same; stride = ap (λ d. d.stride) same; count = ap (λ d. d.count) same }
 
   same_count : rows_of front q.table ≡ row_count pool q.table
@@ -206,10 +206,10 @@ module _ (static_size : ℕ) (pool fronts : List ℕ) (q : Places) (h : IsHeap s
             let f : IsFull pool q.table r = record { within = has.within; some = some_bytes row (omega (arith, some, same.count)) has.alive } in
             let most : row.place + row_bytes row ≤ q.end = omega (arith, h.blocks.end_is.most r f, le-block row) in
             record {
-              within = omega (arith, same.place, long, most, length_dump);
-              are = ap₂ (λ (n at : ℕ). take n (drop at front)) long same.place
-                  ∙ same_window pool front row.place row.place (row_bytes row) (omega (arith, most, end_fits)) (omega (arith, most, length_dump))
-                  (λ k below. get_or-take q.end pool (row.place + k) 0 (omega (arith, most, below)))
+              within = omega (arith, same.place, long, most, past, length_front);
+              are = ap₂ (λ (m at : ℕ). take m (drop at front)) long same.place
+                  ∙ same_window pool front row.place row.place (row_bytes row) (omega (arith, most, past, inside)) (omega (arith, most, past, length_front))
+                  (λ k below. get_or-take n pool (row.place + k) 0 (omega (arith, most, past, below)))
                   ∙ has.bytes;
             };
       }
@@ -243,13 +243,20 @@ module _ (static_size : ℕ) (pool fronts : List ℕ) (q : Places) (h : IsHeap s
       let apart = p.sound.apart 0 r (first_full pool q.table q.base p.sound) f (λ e. omega (arith, e, filled.above)) in
       parts_apart (table_block front q.table) (row_block front q.table r) (block_of pool q.table 0) (block_of pool q.table r) table_part (row_part r f.within) apart
 
-  -- it holds the heap, by rows as the memory of a file has them
-  pub holds_dump : HoldHeap front q.table (state_of static_size (record { bytes = pool; table = q.table }))
-  holds_dump = record {
-    static = record { within = omega (arith, static_long, length_dump, static_fits); are = static_there };
+  -- they hold the heap, by rows as the memory of a file has them
+  pub holds_front : HoldHeap front q.table (state_of static_size (record { bytes = pool; table = q.table }))
+  holds_front = record {
+    static = record { within = omega (arith, static_long, length_front, static_fits); are = static_there };
     rows = same_count ∙ sym (length-lists_in pool q.table);
-    fits = omega (arith, same_count, table_fits, length_dump);
+    fits = omega (arith, same_count, table_fits, length_front);
     lists = λ r l e. row_is r l (has_list pool q.table r l e);
     from_table = table_apart;
     apart = two_apart;
   }
+
+-- the whole pool holds it too
+pub pool_holds : (static_size : ℕ) (pool fronts : List ℕ) (q : Places) → IsHeap static_size q pool fronts → HoldHeap pool q.table (state_of static_size (record { bytes = pool; table = q.table }))
+pool_holds static_size pool fronts q h =
+    let end : q.end ≤ length pool = end_below static_size pool fronts q h in
+    subst (λ bytes. HoldHeap bytes q.table (state_of static_size (record { bytes = pool; table = q.table }))) (take_all (length pool) pool (omega arith))
+    (holds_front static_size pool fronts q h (length pool) end (omega arith))

@@ -1,11 +1,11 @@
 -- A list that has no bytes any more.
-use Rattle.std.proofs.Common.{◌≡◌, ◌≢◌, ℕ, ◌+◌, ◌-◌, ◌/◌, ◌%◌, ◌<◌, ◌≤◌, inl, inr, List, take, drop, set, nat_eq, Some, refl, ap, sym, subst, ◌∙◌, arith}
+use Rattle.std.proofs.Common.{◌≡◌, ◌≢◌, ℕ, ◌+◌, ◌/◌, ◌%◌, ◌<◌, ◌≤◌, inl, inr, List, take, drop, set, nat_eq, Some, refl, ap, sym, subst, ◌∙◌, arith}
 use Rattle.std.specs.List.{list_any}
 use Rattle.std.proofs.lemmas.Bool.{cases_eq, cases_lt}
 use Rattle.std.proofs.lemmas.List.{nil_from_length}
 use Rattle.nxt_rows.specs.Rows.{dope_row, row_count, no_place}
 use Rattle.nxt_compact.specs.Pools.{block_bytes, IsFull, IsSound}
-use Rattle.nxt_compact.proofs.Going.{first_full}
+use Rattle.nxt_compact.proofs.Laws.Going.{first_full}
 use Rattle.nxt_heap.specs.Lists.{of_length}
 use Rattle.nxt_heap.specs.Inside.Pool.{row_bytes, lists_in, lists_with_length, IsPool, IsEnd, IsEndBelow, AreFronts, Relists, no_row}
 use Rattle.nxt_heap.proofs.Begins.{SameOthers, drop_front, no_front_before, fronts_kept, no_front_then}
@@ -67,6 +67,12 @@ module _ (old new : List ℕ) (table base row : ℕ) (p : IsPool old table base)
           | inr there ↦
               let old_row : q < row_count old table = omega (arith, less, count) in
               ap (λ d. d.count) (r.others q old_row there) ∙ p.bare q some old_row (ap (λ d. d.stride) (sym (r.others q old_row there)) ∙ none)
+        ];
+        backs = λ q less. elim (cases_eq q row) [
+          | inl here ↦ ap (λ k. (dope_row new table k).back) here ∙ ap (λ d. d.back) r.own ∙ p.backs row within
+          | inr there ↦
+              let old_row : q < row_count old table = omega (arith, less, count) in
+              ap (λ d. d.back) (r.others q old_row there) ∙ p.backs q old_row
         ];
         chain = IsFreeChain-kept old new table table p.chain count chain;
         free = λ q some less.

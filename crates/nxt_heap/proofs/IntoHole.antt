@@ -4,8 +4,8 @@ use Rattle.std.proofs.lemmas.Bool.{cases_eq}
 use Rattle.nxt_rows.specs.Rows.{dope_row}
 use Rattle.nxt_compact.specs.Pools.{block_bytes, IsFull, IsSound, Moves}
 use Rattle.nxt_compact.specs.Steps.{IsMovable, moved_to}
-use Rattle.nxt_compact.proofs.Going.{first_full, full_before, moved_full, place_moved, bytes_moved}
-use Rattle.nxt_compact.proofs.Moving.{moved_here, moved_there}
+use Rattle.nxt_compact.proofs.Laws.Going.{first_full, full_before, moved_full, place_moved, bytes_moved}
+use Rattle.nxt_compact.proofs.Laws.Moving.{moved_here, moved_there}
 use Rattle.nxt_heap.specs.declared.blocks.Places.{Places}
 use Rattle.nxt_heap.specs.Inside.Pool.{IsPool, IsHole, IsEnd, IsEndBelow, AreFronts, HasMoved, no_row}
 use Rattle.nxt_heap.proofs.Begins.{SameOthers, drop_front, fronts_kept, put_front}

@@ -4,3 +4,5 @@
 pub mod Lengths
 -- What a heap takes of the pool, where one list changes.
 pub mod Footprints
+-- Blocks that stay.
+pub mod Moves

@@ -1,5 +1,5 @@
 -- A list that has another number of bytes, at a place that has room for them.
-use Rattle.std.proofs.Common.{◌≡◌, ◌≢◌, ℕ, ◌+◌, ◌-◌, ◌*◌, ◌/◌, ◌%◌, ◌<◌, ◌≤◌, inl, inr, List, length, take, drop, get_or, set, nat_eq, Some, refl, ap, sym, subst, ◌∙◌, arith, length-take}
+use Rattle.std.proofs.Common.{◌≡◌, ◌≢◌, ℕ, ◌+◌, ◌*◌, ◌/◌, ◌%◌, ◌<◌, ◌≤◌, inl, inr, List, length, take, drop, get_or, set, nat_eq, Some, refl, ap, sym, subst, ◌∙◌, arith, length-take}
 use Rattle.std.specs.List.{list_any}
 use Rattle.std.specs.Prelude.{max}
 use Rattle.std.proofs.lemmas.Bool.{cases_eq, cases_lt}
@@ -109,6 +109,12 @@ module _ (old new : List ℕ) (table base row place bytes : ℕ) (p : IsPool old
               | inl here ↦ absurd (alive (ap (λ k. (dope_row old table k).stride) (sym here) ∙ sym (stride q old_row) ∙ none))
               | inr there ↦ ap (λ d. d.count) (r.others q old_row there) ∙ p.bare q some_row old_row (ap (λ d. d.stride) (sym (r.others q old_row there)) ∙ none)
             ];
+        backs = λ q less. elim (cases_eq q row) [
+          | inl here ↦ ap (λ k. (dope_row new table k).back) here ∙ ap (λ d. d.back) r.own ∙ p.backs row within
+          | inr there ↦
+              let old_row : q < row_count old table = omega (arith, less, count) in
+              ap (λ d. d.back) (r.others q old_row there) ∙ p.backs q old_row
+        ];
         chain = IsFreeChain-kept old new table table p.chain count chain;
         free = λ q some_row less. ap (list_any (nat_eq q)) chain ∙ p.free q some_row (omega (arith, less, count)) ∙ ap (λ n. nat_eq n 0) (sym (stride q (omega (arith, less, count))));
       }

@@ -41,3 +41,11 @@ mod Seen
 mod Changed
 -- The front of the pool, to the end of the last block.
 mod Dumped
+-- Where a pool is open, by its blocks.
+mod Open
+-- Room for a row's block is made where it moves least.
+mod Needs
+-- A list that gets no longer.
+mod Shorter
+-- The rows of a table, and the chain of those without a list.
+mod Tabled

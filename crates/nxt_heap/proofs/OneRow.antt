@@ -4,9 +4,9 @@ use Rattle.std.proofs.lemmas.Bool.{cases_eq}
 use Rattle.nxt_blocks.specs.Blocks.{total}
 use Rattle.nxt_rows.specs.Rows.{dope_row, row_count, free_rows}
 use Rattle.nxt_compact.specs.Pools.{block_bytes, blocks_in, IsFull}
-use Rattle.nxt_compact.proofs.Going.{first_full}
-use Rattle.nxt_compact.proofs.Opening.{bytes_before, before_next, before_all}
-use Rattle.nxt_compact.proofs.Shifted.{bytes_of_table}
+use Rattle.nxt_compact.proofs.Laws.Going.{first_full}
+use Rattle.nxt_compact.proofs.Laws.Opening.{bytes_before, before_next, before_all}
+use Rattle.nxt_compact.proofs.Laws.Shifted.{bytes_of_table}
 use Rattle.nxt_heap.specs.Inside.Pool.{list_in, IsPool, Relists}
 use Rattle.nxt_heap.proofs.Begins.{SameOthers}
 use Rattle.nxt_heap.proofs.ListsKept.{free_rows-kept, list_in-first, list_in-moved}

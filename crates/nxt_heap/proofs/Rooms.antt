@@ -2,13 +2,13 @@
 use Rattle.std.proofs.Common.{◌≡◌, ℕ, ◌+◌, ◌/◌, ◌%◌, ◌<◌, ◌≤◌, inl, inr, List, slice_index, refl, sym, arith}
 use Rattle.nxt_types.specs.Pool.{pool_size}
 use Rattle.nxt_blocks.specs.Blocks.{total, packed}
-use Rattle.nxt_blocks.proofs.Packing.{packed-total}
+use Rattle.nxt_blocks.proofs.Laws.Packing.{packed-total}
 use Rattle.nxt_rows.specs.Rows.{dope_row}
 use Rattle.nxt_compact.specs.Pools.{block_bytes, block_of, blocks_in, IsFull, Moves, Compacts}
 use Rattle.nxt_compact.specs.Steps.{moved_to}
-use Rattle.nxt_compact.proofs.InPool.{full_in}
-use Rattle.nxt_compact.proofs.Going.{full_before, place_moved, bytes_moved}
-use Rattle.nxt_compact.proofs.Opening.{all_pack}
+use Rattle.nxt_compact.proofs.Laws.InPool.{full_in}
+use Rattle.nxt_compact.proofs.Laws.Going.{full_before, place_moved, bytes_moved}
+use Rattle.nxt_compact.proofs.Laws.Opening.{all_pack}
 use Rattle.nxt_heap.specs.Inside.Pool.{IsPool, IsRoom, IsHole, IsFit, MayHave, AreFronts, no_row}
 use Rattle.nxt_heap.proofs.Begins.{none_found}
 use Rattle.nxt_heap.proofs.IntoHole.{into_others, into_place}

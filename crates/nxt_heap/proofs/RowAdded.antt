@@ -13,8 +13,8 @@ use Rattle.nxt_rows.specs.Rows.{dope_row, row_count, link_of, chain, free_rows}
 use Rattle.nxt_rows.proofs.Laws.Chains.{chain-step}
 use Rattle.nxt_rows.proofs.Laws.FreeRows.{free_rows-none, IsFreeChain-none}
 use Rattle.nxt_compact.specs.Pools.{block_bytes, block_of, blocks_in, IsFull, IsSound}
-use Rattle.nxt_compact.proofs.Going.{first_full}
-use Rattle.nxt_compact.proofs.Opening.{bytes_before, before_next, before_all}
+use Rattle.nxt_compact.proofs.Laws.Going.{first_full}
+use Rattle.nxt_compact.proofs.Laws.Opening.{bytes_before, before_next, before_all}
 use Rattle.nxt_heap.specs.Lists.{empty_list}
 use Rattle.nxt_heap.specs.Inside.Pool.{row_bytes, list_in, lists_in, IsPool, IsRoom, IsEnd, AreFronts, AddsRow}
 use Rattle.nxt_heap.proofs.ListsKept.{list_in-first, list_in-some, list_in-moved, length-lists_in, lists_in-at}
@@ -130,6 +130,13 @@ module _ (old new : List ℕ) (table base stride : ℕ) (p : IsPool old table ba
     bare = λ q above within zero_stride. elim (cases_lt q (row_count old table)) [
       | inl less ↦ let same = a.others q above less in ap (λ d. d.count) same ∙ p.bare q above less (ap (λ d. d.stride) (sym same) ∙ zero_stride)
       | inr more ↦ ap (λ k. (dope_row new table k).count) (last q within more) ∙ ap (λ d. d.count) a.added
+    ];
+    backs = λ q within. elim (cases_eq q 0) [
+      | inl here ↦ ap (λ k. (dope_row new table k).back) here ∙ ap (λ d. d.back) a.first ∙ p.backs 0 p.sound.some
+      | inr there ↦ elim (cases_lt q (row_count old table)) [
+        | inl less ↦ ap (λ d. d.back) (a.others q (omega (arith, there)) less) ∙ p.backs q less
+        | inr more ↦ ap (λ k. (dope_row new table k).back) (last q within more) ∙ ap (λ d. d.back) a.added
+      ]
     ];
     chain = IsFreeChain-none new table still_none;
     free = λ q above within. ap (list_any (nat_eq q)) still_none ∙ elim (cases_lt q (row_count old table)) [

@@ -9,7 +9,7 @@ use Rattle.nxt_types.proofs.Laws.Pool.{le-round4}
 use Rattle.nxt_blocks.specs.Blocks.{total}
 use Rattle.nxt_rows.specs.Rows.{dope_row, row_count}
 use Rattle.nxt_compact.specs.Pools.{block_bytes, blocks_in, IsFull}
-use Rattle.nxt_compact.proofs.Opening.{bytes_before, before_next, before_all}
+use Rattle.nxt_compact.proofs.Laws.Opening.{bytes_before, before_next, before_all}
 use Rattle.nxt_heap.specs.declared.blocks.Places.{Places}
 use Rattle.nxt_heap.specs.Lists.{ByteList, block_of, footprint}
 use Rattle.nxt_heap.specs.Inside.Pool.{row_bytes, list_in, lists_in, state_of, IsPool, IsHeap, IsListRow}

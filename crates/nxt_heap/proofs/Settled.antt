@@ -7,15 +7,15 @@ use Rattle.nxt_types.specs.Pool.{pool_size}
 use Rattle.nxt_model.specs.Reading.{Block}
 use Rattle.nxt_blocks.specs.Blocks.{total, packed, below, place_after, unsettled_below}
 use Rattle.nxt_blocks.specs.Standing.{Stand, IsApart}
-use Rattle.nxt_blocks.proofs.Sums.{In, each_from}
-use Rattle.nxt_blocks.proofs.Packing.{fits}
-use Rattle.nxt_blocks.proofs.Settling.{block_packed-le}
-use Rattle.nxt_blocks.proofs.Growing.{full, full-unsettled}
+use Rattle.nxt_blocks.proofs.Laws.Sums.{In, each_from}
+use Rattle.nxt_blocks.proofs.Laws.Packing.{fits}
+use Rattle.nxt_blocks.proofs.Laws.Settling.{block_packed-le}
+use Rattle.nxt_blocks.proofs.Laws.Growing.{full, full-unsettled}
 use Rattle.nxt_rows.specs.Rows.{dope_row}
 use Rattle.nxt_compact.specs.Pools.{block_of, blocks_in, IsFull, Compacts}
-use Rattle.nxt_compact.proofs.InPool.{full_in, in_full, standing}
-use Rattle.nxt_compact.proofs.Going.{first_full, same_moves, no_moves}
-use Rattle.nxt_compact.proofs.Compacted.{compacted_sound}
+use Rattle.nxt_compact.proofs.Laws.InPool.{full_in, in_full, standing}
+use Rattle.nxt_compact.proofs.Laws.Going.{first_full, same_moves, no_moves}
+use Rattle.nxt_compact.proofs.Laws.Compacted.{compacted_sound}
 use Rattle.nxt_heap.specs.Inside.Pool.{IsPool, IsEnd, IsHole, IsFit}
 use Rattle.nxt_heap.proofs.Begins.{words_of}
 use Rattle.nxt_heap.proofs.AfterMoves.{pool_moved}

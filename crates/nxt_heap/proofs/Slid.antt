@@ -2,12 +2,12 @@
 use Rattle.std.proofs.Common.{◌≡◌, ℕ, ◌+◌, ◌-◌, ◌%◌, ◌<◌, ◌≤◌, inl, inr, List, length, refl, ap, sym, ◌∙◌, arith}
 use Rattle.nxt_types.specs.Pool.{round4}
 use Rattle.nxt_model.specs.Reading.{Block}
-use Rattle.nxt_blocks.proofs.Packing.{packed-total, fits}
-use Rattle.nxt_blocks.proofs.Growing.{slid_bytes, slid-order, extra, extra_yes, shift_most}
+use Rattle.nxt_blocks.proofs.Laws.Packing.{packed-total}
+use Rattle.nxt_blocks.proofs.Laws.Growing.{slid_bytes, slid-order, extra, extra_yes, shift_most}
 use Rattle.nxt_rows.specs.Rows.{dope_row}
 use Rattle.nxt_compact.specs.Pools.{block_bytes, block_of, blocks_in, IsFull, IsSound, Moves, HasRoom, slid_in}
-use Rattle.nxt_compact.proofs.InPool.{full_in}
-use Rattle.nxt_compact.proofs.Going.{full_before, place_moved, bytes_moved}
+use Rattle.nxt_compact.proofs.Laws.InPool.{full_in}
+use Rattle.nxt_compact.proofs.Laws.Going.{full_before, place_moved, bytes_moved}
 use Rattle.nxt_heap.specs.Inside.Pool.{IsPool, IsRoom, MayHave}
 use Rattle.nxt_heap.proofs.Begins.{words_of}
 use Rattle.nxt_heap.proofs.AfterMoves.{moved_sound, pool_moved}

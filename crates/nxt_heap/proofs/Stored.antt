@@ -8,10 +8,11 @@ use Rattle.nxt_blocks.specs.Blocks.{total}
 use Rattle.nxt_rows.specs.Rows.{dope_row, row_count}
 use Rattle.nxt_rows.proofs.Laws.Writes.{dope_row-kept}
 use Rattle.nxt_compact.specs.Pools.{block_bytes, blocks_in, IsFull, IsSound}
-use Rattle.nxt_compact.proofs.Going.{first_full}
-use Rattle.nxt_compact.proofs.Opening.{bytes_before, before_next, before_all}
-use Rattle.nxt_compact.proofs.Shifted.{bytes_of_table}
+use Rattle.nxt_compact.proofs.Laws.Going.{first_full}
+use Rattle.nxt_compact.proofs.Laws.Opening.{bytes_before, before_next, before_all}
+use Rattle.nxt_compact.proofs.Laws.Shifted.{bytes_of_table}
 use Rattle.nxt_heap.specs.declared.blocks.Places.{Places}
+use Rattle.nxt_heap.specs.Moves.{RowsStay}
 use Rattle.nxt_heap.specs.Inside.Pool.{row_bytes, list_in, lists_in, lists_with_bytes, IsPool, AreBlocks}
 use Rattle.nxt_heap.proofs.Begins.{table_inside}
 use Rattle.nxt_heap.proofs.ListsKept.{free_rows-kept, IsFreeChain-kept, list_in-first, list_in-some, list_in-moved, lists_in-set, same_lists_in}
@@ -65,6 +66,7 @@ module _ (old new fronts : List ℕ) (q : Places) (b : AreBlocks old fronts q) (
         bare = λ r above within none.
             let less : r < row_count old q.table = omega (arith, within, same_count) in
             ap (λ d. d.count) (rows r less) ∙ p.bare r above less (ap (λ d. d.stride) (sym (rows r less)) ∙ none);
+        backs = λ r within. let less : r < row_count old q.table = omega (arith, within, same_count) in ap (λ d. d.back) (rows r less) ∙ p.backs r less;
         chain = IsFreeChain-kept old new q.table q.table p.chain same_count chain;
         free = λ r above within.
             let less : r < row_count old q.table = omega (arith, within, same_count) in
@@ -144,6 +146,9 @@ module _ (xs fronts : List ℕ) (q : Places) (b : AreBlocks xs fronts q) (row at
   pub stored_blocks : AreBlocks after_bytes fronts q
   stored_blocks = rows_blocks xs after_bytes fronts q b size_same stored_rows
 
+  pub stored_stay : RowsStay (record { bytes = xs; table = q.table }) (record { bytes = after_bytes; table = q.table })
+  stored_stay = record { table = refl; count = rows_count xs after_bytes fronts q b size_same stored_rows; rows = stored_rows }
+
   pub stored_lists : lists_in after_bytes q.table ≡ lists_with_bytes xs q.table row at bs
   stored_lists =
       let x = dope_row xs q.table row in
@@ -185,6 +190,9 @@ module _ (xs fronts : List ℕ) (q : Places) (b : AreBlocks xs fronts q) (at : �
 
   pub below_blocks : AreBlocks (put_at at bs xs) fronts q
   below_blocks = rows_blocks xs (put_at at bs xs) fronts q b (length-put_at at bs xs below_inside) below_rows
+
+  pub below_stay : RowsStay (record { bytes = xs; table = q.table }) (record { bytes = put_at at bs xs; table = q.table })
+  below_stay = record { table = refl; count = rows_count xs (put_at at bs xs) fronts q b (length-put_at at bs xs below_inside) below_rows; rows = below_rows }
 
   pub below_lists : lists_in (put_at at bs xs) q.table ≡ lists_in xs q.table
   below_lists = same_lists_in xs (put_at at bs xs) q.table q.table (rows_count xs (put_at at bs xs) fronts q b (length-put_at at bs xs below_inside) below_rows)

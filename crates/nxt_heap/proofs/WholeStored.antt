@@ -6,7 +6,7 @@ use Rattle.nxt_compact.specs.Pools.{block_bytes, IsFull}
 use Rattle.nxt_heap.specs.declared.blocks.Places.{Places}
 use Rattle.nxt_heap.specs.Inside.Pool.{row_bytes, AreBlocks, IsListRow, Stores}
 use Rattle.nxt_heap.proofs.Begins.{table_inside}
-use Rattle.nxt_heap.proofs.Stored.{stored_blocks, stored_lists, stored_below, stored_none}
+use Rattle.nxt_heap.proofs.Stored.{stored_blocks, stored_stay, stored_lists, stored_below, stored_none}
 use Rattle.nxt_heap.proofs.Windows.{le-block}
 
 module _ (xs fronts : List ℕ) (p : Places) (table row at : ℕ) (bs : List ℕ) (b : AreBlocks xs fronts p) (same : table ≡ p.table) (l : IsListRow xs table row 0) where
@@ -35,6 +35,7 @@ module _ (xs fronts : List ℕ) (p : Places) (table row at : ℕ) (bs : List ℕ
           rw is (stored_blocks xs gs q c row at bs l.above (rw is at l.within) (λ e. l.alive (rw is e)) some (rw is at fits));
       lists = rw same (stored_lists xs fronts p b row at bs l.above (rw same at l.within) (λ e. l.alive (rw same e)) some (rw same at fits));
       below = λ gs q is c k low. rw is (stored_below xs gs q c row at bs l.above (rw is at l.within) (λ e. l.alive (rw is e)) some (rw is at fits) k low);
+      stay = rw same (stored_stay xs fronts p b row at bs l.above (rw same at l.within) (λ e. l.alive (rw same e)) some (rw same at fits));
     }
 
 -- no bytes
@@ -43,4 +44,5 @@ stores_none xs table row at bs l none = record {
   blocks = λ gs q is c. c;
   lists = stored_none xs table row at bs l.above l.within l.alive none;
   below = λ gs q is c k low. refl;
+  stay = record { table = refl; count = refl; rows = λ q less. refl };
 }

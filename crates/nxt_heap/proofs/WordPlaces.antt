@@ -1,15 +1,15 @@
 -- Blocks begin at words, also once they packed, settled or slid.
-use Rattle.std.proofs.Common.{◌≡◌, ℕ, ◌-◌, ◌%◌, inl, inr, cond, List, [], ◌∷◌, refl, ap, ◌∙◌, arith}
+use Rattle.std.proofs.Common.{◌≡◌, ℕ, ◌%◌, inl, inr, cond, List, [], ◌∷◌, refl, ap, ◌∙◌, arith}
 use Rattle.std.specs.Prelude.{sum_by}
 use Rattle.std.proofs.lemmas.Bool.{cases_lt, lt-ltb, le-ltb}
 use Rattle.std.proofs.lemmas.List.Sums.{sum_by-cons}
 use Rattle.nxt_model.specs.Reading.{Block}
 use Rattle.nxt_blocks.specs.Blocks.{below, packed, total, place_after, unsettled_below}
-use Rattle.nxt_blocks.proofs.Packing.{under, under_yes, under_no}
-use Rattle.nxt_blocks.proofs.Sums.{In}
+use Rattle.nxt_blocks.proofs.Laws.Packing.{under, under_yes, under_no}
+use Rattle.nxt_blocks.proofs.Laws.Sums.{In}
 use Rattle.nxt_rows.specs.Rows.{dope_row}
 use Rattle.nxt_compact.specs.Pools.{blocks_in, slid_in}
-use Rattle.nxt_compact.proofs.InPool.{in_full}
+use Rattle.nxt_compact.proofs.Laws.InPool.{in_full}
 use Rattle.nxt_heap.proofs.Begins.{words_of}
 
 sum_words : (f : Block → ℕ) (xs : List Block) → ((b : Block) → In b xs → f b % 4 ≡ 0) → sum_by f xs % 4 ≡ 0

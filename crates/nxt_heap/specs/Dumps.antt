@@ -1,5 +1,7 @@
 -- How bytes hold a heap, by rows as the memory of a file has them.
-use Rattle.std.specs.Prelude.{◌≡◌, ◌≢◌, ℕ, ◌+◌, ◌*◌, ◌<◌, ◌≤◌, List, [], length, take, drop, Some}
+use Rattle.std.specs.Prelude.{◌≡◌, ◌≢◌, ℕ, ◌+◌, ◌*◌, ◌<◌, ◌≤◌, false, List, [], length, take, drop, nat_eq, All, Some, None, is_none}
+use Rattle.std.specs.List.{IsDistinct, list_any}
+use Rattle.nxt_model.specs.Dump.{IsChain}
 use Rattle.nxt_model.specs.Reading.{DopeRow, dope_row, Block, AreApart}
 use Rattle.nxt_heap.specs.Lists.{ByteList, Lists, list_at}
 
@@ -48,3 +50,18 @@ pub record HoldHeap (bytes : List ℕ) (table : ℕ) (h : Lists) : Type 0 where
   pub lists : (r : ℕ) (l : ByteList) → list_at h r ≡ Some l → IsRowOf bytes table r l
   pub from_table : (r : ℕ) → IsFilled bytes table r → AreApart (table_block bytes table) (row_block bytes table r)
   pub apart : (q r : ℕ) → q ≢ r → IsFilled bytes table q → IsFilled bytes table r → AreApart (row_block bytes table q) (row_block bytes table r)
+
+-- what else the rows of a table show: row 0 is the table's own, an empty list has no place, a row without a list has no
+-- elements, no row points back, and the links lead from row 0 through each row without a list, once, and then to 0
+pub record IsDopeTable (bytes : List ℕ) (table : ℕ) (h : Lists) : Type 0 where
+  pub place : place_of bytes table 0 ≡ table
+  pub stride : (row_of bytes table 0).stride ≡ 10
+  pub empty : (r : ℕ) → 0 < r → r < rows_of bytes table → (row_of bytes table r).count ≡ 0 → place_of bytes table r ≡ 65535
+  pub bare : (r : ℕ) → 0 < r → r < rows_of bytes table → list_at h r ≡ None → (row_of bytes table r).count ≡ 0
+  pub backs : (r : ℕ) → r < rows_of bytes table → (row_of bytes table r).back ≡ 0
+  pub free : List ℕ
+  pub links : IsChain (record { entries = []; bytes = bytes; table = table }) 0 free
+  pub within : All (λ r. r < rows_of bytes table) free
+  pub above : list_any (nat_eq 0) free ≡ false
+  pub once : IsDistinct nat_eq free
+  pub members : (r : ℕ) → 0 < r → r < rows_of bytes table → list_any (nat_eq r) free ≡ is_none (list_at h r)

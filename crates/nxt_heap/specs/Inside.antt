@@ -1,4 +1,4 @@
 -- How a heap is kept in its pool: definitions that no caller needs.
 
--- The inside of the heap: a pool with the static bytes first, then the table of rows, then a block for each list, in the
+-- Where the blocks stand in the pool, which lists it holds, and what each step changes.
 pub mod Pool

@@ -1,3 +1,4 @@
 pub mod Dumps
 pub mod Lists
 pub mod Inside
+pub mod Moves

@@ -1,14 +1,16 @@
 // The blocks of a pool: the table of rows and each list that has bytes, with gaps between them.
 
-ghost use Rattle.std.specs.Prelude.{◌≡◌, ◌≢◌, ◌+◌, ◌*◌, ◌%◌, ◌<◌, ◌≤◌, ◌-◌, ◌/◌, ◌↔◌, ◌⊎◌, ℕ, List, [], None, length, take, drop, replicate, slice_index, IsTrue, IfSome, IfNone, IfOk, IfErr, OnErr};
+ghost use Rattle.std.specs.Prelude.{◌≡◌, ◌≢◌, ◌+◌, ◌*◌, ◌%◌, ◌<◌, ◌≤◌, ◌-◌, ◌/◌, ◌↔◌, ◌⊎◌, ℕ, List, [], None, length, take, drop, replicate, slice_index, IsTrue, IfSome, IfNone, IfOk, IfErr, OnOk, OnErr, false};
 ghost use Rattle.nxt_types.specs.Pool.{round4 as rounded, pool_size};
 ghost use Rattle.nxt_rows.specs.Rows.{dope_row, row_count, free_rows, no_place};
 ghost use Rattle.nxt_blocks.specs.Blocks.{place_after, total};
 ghost use Rattle.nxt_compact.specs.Pools.{IsFull, block_bytes as bytes_of_block, blocks_in, slid_in, Compacts};
 ghost use Rattle.nxt_facts.specs.PutAt.{put_at};
+ghost use Rattle.nxt_heap.specs.Lists.{any_free};
+ghost use Rattle.nxt_heap.specs.Moves.{holds_behind, MovesAtNeed, GrowsTable, NoneMoves};
 ghost use Rattle.nxt_heap.specs.declared.blocks.Places.{Places};
 ghost use Rattle.nxt_compact.specs.Steps.{moved_to};
-ghost use Rattle.nxt_heap.specs.Inside.Pool.{IsPool, IsEnd, AreFronts, IsHole, IsFit, IsRoom, AreBlocks, BlocksMove, MayHave, HasMoved, IsListRow, Relists, HasLength, Frees, Takes, IsRefused, HasRow, AddsRow, Stores, lists_in, row_bytes as bytes_in_row, words, no_row};
+ghost use Rattle.nxt_heap.specs.Inside.Pool.{IsPool, IsEnd, AreFronts, IsHole, IsFit, IsRoom, AreBlocks, BlocksMove, MakesRoom, MayHave, HasMoved, IsListRow, Relists, HasLength, Frees, Takes, IsRefused, HasRow, AddsRow, Stores, lists_in, pool_at, row_bytes as bytes_in_row, words, no_row};
 
 use crate::fronts::{NO_ROW, first_fit, first_front, last_end, note_all, word};
 use crate::passed::PoolPassed;
@@ -124,6 +126,7 @@ pub fn make_room(pool: &mut [u8], fronts: &mut [u16], at: &mut Places, row: u16,
     requires may { MayHave pool.old at.old.table at.old.base row bytes }
     ensures moves { (to : ℕ → ℕ) × BlocksMove pool.old fronts.old pool.new fronts.new at.old at.new to }
     ensures room { IsRoom pool.new at.new.table at.new.base row result bytes }
+    ensures need { MakesRoom pool.old pool.new at.old at.new row bytes result }
 {
     let found = get(pool, at.table, row);
     let had = block_bytes(found) as u32;
@@ -151,8 +154,10 @@ fn place_longer(pool: &mut [u8], fronts: &mut [u16], at: &mut Places, row: u16, 
     requires may { MayHave pool.old at.old.table at.old.base row bytes }
     requires full { IsFull pool.old at.old.table row }
     requires longer { bytes_of_block (dope_row pool.old at.old.table row) < bytes }
+    requires behind { holds_behind at.old.base (pool_at pool.old at.old) row bytes ≡ false }
     ensures moves { (to : ℕ → ℕ) × BlocksMove pool.old fronts.old pool.new fronts.new at.old at.new to }
     ensures room { IsRoom pool.new at.new.table at.new.base row result bytes }
+    ensures need { MakesRoom pool.old pool.new at.old at.new row bytes result }
 {
     match hole(pool, fronts, *at, bytes) {
         Some(place) => {
@@ -170,6 +175,7 @@ fn place_new(pool: &mut [u8], fronts: &mut [u16], at: &mut Places, row: u16, byt
     requires empty { bytes_of_block (dope_row pool.old at.old.table row) ≡ 0 }
     ensures moves { (to : ℕ → ℕ) × BlocksMove pool.old fronts.old pool.new fronts.new at.old at.new to }
     ensures room { IsRoom pool.new at.new.table at.new.base row result bytes }
+    ensures need { MakesRoom pool.old pool.new at.old at.new row bytes result }
 {
     match hole(pool, fronts, *at, bytes) {
         Some(place) => place,
@@ -193,7 +199,9 @@ fn set_length(
     requires list { IsListRow pool.old at.old.table row bytes }
     requires some { 0 < bytes }
     requires room { IsRoom pool.old at.old.table at.old.base row place (rounded bytes) }
-    ensures { HasLength pool.old pool.new fronts.new at.old at.new row bytes }
+    ensures length { HasLength pool.old pool.new fronts.new at.old at.new row bytes }
+    ensures row { Relists pool.old pool.new at.old.table row place (bytes / (dope_row pool.old at.old.table row).stride) (rounded bytes) }
+    ensures table { at.new.table ≡ at.old.table }
 {
     let block = block_bytes(get(pool, at.table, row)) as u32;
     let room = round4(bytes as u64) as u32;
@@ -300,7 +308,9 @@ pub fn resize_list(pool: &mut [u8], fronts: &mut [u16], at: &mut Places, row: u1
     requires blocks { AreBlocks pool.old fronts.old at.old }
     requires list { IsListRow pool.old at.old.table row bytes }
     requires fits { at.old.footprint + rounded bytes ≤ pool_size + bytes_of_block (dope_row pool.old at.old.table row) }
-    ensures { HasLength pool.old pool.new fronts.new at.old at.new row bytes }
+    ensures length { HasLength pool.old pool.new fronts.new at.old at.new row bytes }
+    ensures need { MovesAtNeed at.old.base (pool_at pool.old at.old) (pool_at pool.new at.new) row (rounded bytes) }
+    ensures shorter { rounded bytes ≤ bytes_of_block (dope_row pool.old at.old.table row) → NoneMoves (pool_at pool.old at.old) (pool_at pool.new at.new) }
 {
     if bytes == 0 {
         drop_bytes(pool, fronts, at, row);
@@ -331,6 +341,7 @@ pub fn new_list(
     requires blocks { AreBlocks pool.old fronts.old at.old }
     requires stride { 1 ≤ stride }
     ensures ok { IfOk result (Takes pool.old pool.new fronts.new at.old at.new stride) }
+    ensures need { OnOk result (GrowsTable at.old.base (pool_at pool.old at.old) (pool_at pool.new at.new) (any_free (lists_in pool.old at.old.table)) (rounded (10 * (row_count pool.old at.old.table + 1)))) }
     ensures passed { IfErr result (λ e. IsRefused pool.old at.old e.0) }
     ensures err { OnErr result ((pool.new ≡ pool.old) × (fronts.new ≡ fronts.old) × (at.new ≡ at.old)) }
 {
@@ -351,6 +362,7 @@ fn add_list(
     requires full { free_rows pool.old at.old.table ≡ [] }
     requires stride { 1 ≤ stride }
     ensures ok { IfOk result (Takes pool.old pool.new fronts.new at.old at.new stride) }
+    ensures need { OnOk result (MovesAtNeed at.old.base (pool_at pool.old at.old) (pool_at pool.new at.new) 0 (rounded (10 * (row_count pool.old at.old.table + 1)))) }
     ensures passed { IfErr result (λ e. IsRefused pool.old at.old e.0) }
     ensures err { OnErr result ((pool.new ≡ pool.old) × (fronts.new ≡ fronts.old) × (at.new ≡ at.old)) }
 {
@@ -372,7 +384,9 @@ fn add_row(pool: &mut [u8], fronts: &[u16], at: &mut Places, stride: u16)
     requires full { free_rows pool.old at.old.table ≡ [] }
     requires stride { 1 ≤ stride }
     requires room { IsRoom pool.old at.old.table at.old.base 0 at.old.table (rounded (10 * (row_count pool.old at.old.table + 1))) }
-    ensures { HasRow pool.old pool.new fronts.now at.old at.new stride }
+    ensures added { HasRow pool.old pool.new fronts.now at.old at.new stride }
+    ensures rows { AddsRow pool.old pool.new at.old.table stride }
+    ensures table { at.new.table ≡ at.old.table }
 {
     let rows = get(pool, at.table, 0).count;
     let had = round4(ROW_BYTES * rows as u64) as u32;

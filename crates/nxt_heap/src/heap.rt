@@ -1,9 +1,10 @@
 ghost use Rattle.std.specs.Prelude.{◌≡◌, ◌+◌, ◌*◌, ◌++◌, ◌∷◌, [], ◌<◌, ◌≤◌, ℕ, length, OnOk, OnErr, IfErr, IfOk, IfSome, ◌%◌, ◌^◌, None, take};
 ghost use Rattle.nxt_facts.specs.PutAt.{put_at};
 ghost use Rattle.nxt_types.specs.Pool.{round4 as rounded, pool_size};
-ghost use Rattle.nxt_heap.specs.Dumps.{HoldHeap};
-ghost use Rattle.nxt_heap.specs.Lists.{IsAlive, list_at, stride_at, bytes_at, footprint, Passes, IsFree, with_free, with_free_row, empty_list, zero_heap, base_of, with_list, with_length, with_bytes, with_these};
-ghost use Rattle.nxt_compact.specs.Pools.{blocks_in, Compacts};
+ghost use Rattle.nxt_heap.specs.Dumps.{HoldHeap, IsDopeTable, row_of};
+ghost use Rattle.nxt_heap.specs.Lists.{IsAlive, list_at, stride_at, bytes_at, footprint, Passes, IsFree, with_free, with_free_row, empty_list, zero_heap, base_of, with_list, with_length, with_bytes, with_these, any_free};
+ghost use Rattle.nxt_heap.specs.Moves.{MovesAtNeed, GrowsTable, NoneMoves, RowsStay, OthersStay};
+ghost use Rattle.nxt_compact.specs.Pools.{blocks_in, Compacts, IsSound};
 ghost use Rattle.nxt_blocks.specs.Blocks.{unsettled as unsettled_in};
 ghost use Rattle.nxt_model.specs.Dump.{greatest_end};
 ghost use Rattle.nxt_heap.specs.Inside.Pool.{Shows};
@@ -85,7 +86,8 @@ impl Heap {
     /// Stores static bytes from a place on.
     pub fn set_static(&mut self, at: u32, bytes: &[u8])
         requires { at + length bytes.now ≤ length self.old.lists.static_bytes }
-        ensures { self.new.lists ≡ record self.old.lists { static_bytes = put_at at bytes.now self.old.lists.static_bytes } }
+        ensures lists { self.new.lists ≡ record self.old.lists { static_bytes = put_at at bytes.now self.old.lists.static_bytes } }
+        ensures stay { RowsStay self.old.pool self.new.pool }
     {
         put(&mut self.pool, at as usize, bytes);
     }
@@ -96,6 +98,7 @@ impl Heap {
         requires { 1 ≤ stride }
         ensures free { IfOk result (λ row. IsFree (with_free self.old.lists.by_row) row) }
         ensures ok { IfOk result (λ row. self.new.lists ≡ with_list (with_free_row self.old.lists) row (empty_list stride)) }
+        ensures moves { OnOk result (GrowsTable (base_of self.old.lists) self.old.pool self.new.pool (any_free self.old.lists.by_row) (rounded (10 * (length self.old.lists.by_row + 1)))) }
         ensures fits { OnOk result (footprint (with_free_row self.old.lists) ≤ pool_size) }
         ensures passed { IfErr result (λ e. Passes (with_free_row self.old.lists) e.0) }
         ensures err { OnErr result (self.new ≡ self.old) }
@@ -108,6 +111,8 @@ impl Heap {
         requires alive { IsAlive self.old.lists row }
         requires whole { bytes % stride_at self.old.lists row ≡ 0 }
         ensures ok { OnOk result (self.new.lists ≡ with_length self.old.lists row bytes) }
+        ensures moves { OnOk result (MovesAtNeed (base_of self.old.lists) self.old.pool self.new.pool row (rounded bytes)) }
+        ensures shorter { OnOk result (bytes ≤ length (bytes_at self.old.lists row) → NoneMoves self.old.pool self.new.pool) }
         ensures fits { OnOk result (footprint (with_length self.old.lists row bytes) ≤ pool_size) }
         ensures passed { IfErr result (λ e. Passes (with_length self.old.lists row bytes) e.0) }
         ensures err { OnErr result (self.new ≡ self.old) }
@@ -136,6 +141,8 @@ impl Heap {
         requires whole { length bytes.now % stride_at self.old.lists row ≡ 0 }
         requires small { length bytes.now < 2 ^ 32 }
         ensures ok { OnOk result (self.new.lists ≡ with_these self.old.lists row bytes.now) }
+        ensures moves { OnOk result (MovesAtNeed (base_of self.old.lists) self.old.pool self.new.pool row (rounded (length bytes.now))) }
+        ensures shorter { OnOk result (length bytes.now ≤ length (bytes_at self.old.lists row) → NoneMoves self.old.pool self.new.pool) }
         ensures fits { OnOk result (footprint (with_these self.old.lists row bytes.now) ≤ pool_size) }
         ensures passed { IfErr result (λ e. Passes (with_these self.old.lists row bytes.now) e.0) }
         ensures err { OnErr result (self.new ≡ self.old) }
@@ -151,6 +158,8 @@ impl Heap {
         requires single { stride_at self.old.lists row ≡ 1 }
         requires small { length bytes.now + 1 < 2 ^ 32 }
         ensures ok { OnOk result (self.new.lists ≡ with_these self.old.lists row (bytes.now ++ 0 ∷ [])) }
+        ensures moves { OnOk result (MovesAtNeed (base_of self.old.lists) self.old.pool self.new.pool row (rounded (length bytes.now + 1))) }
+        ensures shorter { OnOk result (length bytes.now + 1 ≤ length (bytes_at self.old.lists row) → NoneMoves self.old.pool self.new.pool) }
         ensures fits { OnOk result (footprint (with_these self.old.lists row (bytes.now ++ 0 ∷ [])) ≤ pool_size) }
         ensures passed { IfErr result (λ e. Passes (with_these self.old.lists row (bytes.now ++ 0 ∷ [])) e.0) }
         ensures err { OnErr result (self.new ≡ self.old) }
@@ -168,6 +177,8 @@ impl Heap {
         requires source { IsAlive self.old.lists from }
         requires whole { length (bytes_at self.old.lists from) % stride_at self.old.lists to ≡ 0 }
         ensures ok { OnOk result (self.new.lists ≡ with_these self.old.lists to (bytes_at self.old.lists from)) }
+        ensures moves { OnOk result (MovesAtNeed (base_of self.old.lists) self.old.pool self.new.pool to (rounded (length (bytes_at self.old.lists from)))) }
+        ensures shorter { OnOk result (length (bytes_at self.old.lists from) ≤ length (bytes_at self.old.lists to) → NoneMoves self.old.pool self.new.pool) }
         ensures fits { OnOk result (footprint (with_these self.old.lists to (bytes_at self.old.lists from)) ≤ pool_size) }
         ensures passed { IfErr result (λ e. Passes (with_these self.old.lists to (bytes_at self.old.lists from)) e.0) }
         ensures err { OnErr result (self.new ≡ self.old) }
@@ -191,7 +202,8 @@ impl Heap {
         requires alive { IsAlive self.old.lists to }
         requires source { IsAlive self.old.lists from }
         requires long { length (bytes_at self.old.lists from) ≤ length (bytes_at self.old.lists to) }
-        ensures { self.new.lists ≡ with_bytes self.old.lists to 0 (bytes_at self.old.lists from) }
+        ensures lists { self.new.lists ≡ with_bytes self.old.lists to 0 (bytes_at self.old.lists from) }
+        ensures stay { RowsStay self.old.pool self.new.pool }
     {
         copy_bytes(&mut self.pool, self.places.table, to, from);
     }
@@ -199,7 +211,8 @@ impl Heap {
     /// Frees a list and its row.
     pub fn free_array(&mut self, row: u16)
         requires { IsAlive self.old.lists row }
-        ensures { self.new.lists ≡ with_list self.old.lists row None }
+        ensures lists { self.new.lists ≡ with_list self.old.lists row None }
+        ensures stay { OthersStay self.old.pool self.new.pool row }
     {
         free_list(&mut self.pool, &mut self.fronts, &mut self.places, row);
     }
@@ -230,7 +243,8 @@ impl Heap {
     pub fn write(&mut self, row: u16, at: u32, bytes: &[u8])
         requires alive { IsAlive self.old.lists row }
         requires at { at + length bytes.now ≤ length (bytes_at self.old.lists row) }
-        ensures { self.new.lists ≡ with_bytes self.old.lists row at bytes.now }
+        ensures lists { self.new.lists ≡ with_bytes self.old.lists row at bytes.now }
+        ensures stay { RowsStay self.old.pool self.new.pool }
     {
         write_bytes(&mut self.pool, self.places.table, row, at, bytes);
     }
@@ -255,6 +269,8 @@ impl Heap {
     pub fn dump(&self, alloc: Global) -> Result<Bytes, NoMemory>
         ensures shows { IfOk result (λ bytes. Shows bytes self.now.pool.table self.now.lists) }
         ensures holds { IfOk result (λ bytes. HoldHeap bytes self.now.pool.table self.now.lists) }
+        ensures table { IfOk result (λ bytes. IsDopeTable bytes self.now.pool.table self.now.lists) }
+        ensures rows { IfOk result (λ bytes. (r : ℕ) → r < length self.now.lists.by_row → row_of bytes self.now.pool.table r ≡ row_of self.now.pool.bytes self.now.pool.table r) }
         ensures front { IfOk result (λ bytes. bytes ≡ take (length bytes) self.now.pool.bytes) }
         ensures length { IfOk result (λ bytes. length bytes ≡ greatest_end (blocks_in self.now.pool.bytes self.now.pool.table)) }
     {
@@ -279,9 +295,13 @@ impl Heap {
         get(&self.pool, self.places.table, 0).count
     }
 
-    /// What a heap holds is sound: row 0 is the table's own, and no list. The call does nothing.
+    /// What a heap holds is sound: the pool has 32,768 bytes, row 0 is the table's own, and no list, the pool's rows read as the
+    /// lists, and the blocks share no byte. The call does nothing.
     pub fn is_sound(&self)
-        ensures { list_at self.now.lists 0 ≡ None }
+        ensures first { list_at self.now.lists 0 ≡ None }
+        ensures holds { HoldHeap self.now.pool.bytes self.now.pool.table self.now.lists }
+        ensures apart { IsSound self.now.pool.bytes self.now.pool.table (base_of self.now.lists) }
+        ensures size { length self.now.pool.bytes ≡ pool_size }
     {
         let _end = self.places.end;
     }

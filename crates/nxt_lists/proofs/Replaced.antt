@@ -112,3 +112,26 @@ element_replaced old mid new i j k w to from x sound mine theirs same is taken t
           all
           (subst (λ m. Does {T = Unit {0}} Done (with_value s i v) old (Ok tt) m) (sym stays) taken)
     ]
+
+-- and then it is as long as before
+pub element_long : (old mid new : SpaceViews) (i j k w : ℕ) (to : ListSpot) → AreSound old.vars → IsListSpot old.vars i to → Does {T = Unit {0}} Done (with_value old.vars i (value_of old.vars j)) old (Ok tt) mid → IsElementSet mid to k w new → length (elements (value_of new.vars i)) ≡ length (elements (value_of mid.vars i))
+element_long old mid new i j k w to sound mine taken then =
+    let s = old.vars in
+    let v = value_of s j in
+    let t = with_values (with_value s i v) s in
+    let some = list_named s i to mine in
+    let z = stored (Number to.kind) (Num (pos w)) in
+    let xs = elements (value_of t i) in
+    let had = ap (λ r. length (elements (value_of r i))) taken.1 in
+    elim (cases_lt k (length xs)) [
+      | inl less ↦
+          let u = list_of (set xs k z) in
+          let set_there : new.vars ≡ record t { values = with_value t i u } =
+          subst (λ r. IsListSpot r i to → k < length (elements (value_of r i)) → new.vars ≡ record r { values = with_value r i (list_of (set (elements (value_of r i)) k z)) }) taken.1 (then.within i) mine less
+          in
+          let now : value_of new.vars i ≡ u = ap (λ r. value_of r i) (set_there ∙ ap (λ vars. record t { values = vars }) (value_twice s i v u)) ∙ value_there s i u sound some in
+          ap (λ y. length (elements y)) now ∙ ap length (items-values (set xs k z)) ∙ length-set xs k z ∙ sym had
+      | inr more ↦
+          let stays : new ≡ mid = subst (λ r. IsListSpot r i to → length (elements (value_of r i)) ≤ k → new ≡ mid) taken.1 (then.past i) mine more in
+          ap (λ r. length (elements (value_of r.vars i))) stays
+    ]

@@ -7,6 +7,7 @@ ghost use Rattle.nxt_model.specs.Devices.{Devices};
 ghost use Rattle.nxt_model.specs.Means.Arrays.{build as build_means, initialize as initialize_means};
 ghost use Rattle.nxt_model.specs.Values.{flat as flat_form, list_of, stored};
 ghost use Rattle.nxt_values.specs.Sizes.{IsCountable};
+ghost use Rattle.nxt_space.specs.Keeping.{Leaves};
 ghost use Rattle.nxt_space.specs.Variables.{AreSound, name_of, shape_of};
 ghost use Rattle.nxt_space.specs.Outcomes.{Does};
 ghost use Rattle.nxt_operands.specs.Operands.{Done, given, place_of, values_stored};
@@ -32,7 +33,8 @@ pub fn build(alloc: Global, space: &mut Space, dest: u16, sources: &[u16]) -> Re
     requires few { length sources.now < 2 ^ 16 }
     requires sources { All (λ i. IsSome (name_of space.old.vars i)) sources.now }
     requires fit { All (λ i. goes_into (shape_of space.old.vars dest) (shape_of space.old.vars i) ≡ true) sources.now }
-    ensures { (d : Devices) → Does Done (values_stored space.old.vars (place_of space.old.vars dest ∷ []) (build_means d (given space.old.vars dest ∷ map (given space.old.vars) sources.now))) space.old result space.new }
+    ensures does { (d : Devices) → Does Done (values_stored space.old.vars (place_of space.old.vars dest ∷ []) (build_means d (given space.old.vars dest ∷ map (given space.old.vars) sources.now))) space.old result space.new }
+    ensures leaves { Leaves (dest ∷ []) space.old space.new }
 {
     if let Some(to) = space.list_spot(dest) {
         if let Some(count) = count_numbers(space, dest, to, sources) {
@@ -60,7 +62,8 @@ pub fn initialize(
     requires of_list { is_list (shape_of space.old.vars dest) ≡ true }
     requires number { is_number (shape_of space.old.vars count) ≡ true }
     requires fit { convertible (element_shape (shape_of space.old.vars dest)) (shape_of space.old.vars value) ≡ true }
-    ensures { (d : Devices) → Does Done (values_stored space.old.vars (place_of space.old.vars dest ∷ []) (initialize_means d (given space.old.vars dest) (given space.old.vars value) (given space.old.vars count))) space.old result space.new }
+    ensures does { (d : Devices) → Does Done (values_stored space.old.vars (place_of space.old.vars dest ∷ []) (initialize_means d (given space.old.vars dest) (given space.old.vars value) (given space.old.vars count))) space.old result space.new }
+    ensures leaves { Leaves (dest ∷ []) space.old space.new }
 {
     let count = wrap(space.get(count));
     if let (Some(to), Some(number)) = (space.list_spot(dest), space.spot(value)) {

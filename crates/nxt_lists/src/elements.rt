@@ -6,6 +6,7 @@ ghost use Rattle.nxt_types.specs.Shapes.{convertible, is_number};
 ghost use Rattle.nxt_model.specs.Devices.{Devices};
 ghost use Rattle.nxt_model.specs.Means.Arrays.{index as index_means, replace as replace_means, array_size as size_means, subset as subset_means, overwritten as overwritten_elements, pieces};
 ghost use Rattle.nxt_model.specs.Values.{Num, elements, flat as flat_form, list_of};
+ghost use Rattle.nxt_space.specs.Keeping.{TableStays, Leaves};
 ghost use Rattle.nxt_space.specs.Variables.{AreSound, name_of, shape_of, value_of};
 ghost use Rattle.nxt_space.specs.Outcomes.{Does};
 ghost use Rattle.nxt_operands.specs.Operands.{Done, given, given_or_left, place_of, values_stored};
@@ -28,7 +29,8 @@ pub fn index(alloc: Global, space: &mut Space, dest: u16, list: u16, at: u16) ->
     requires list { IsSome (name_of space.old.vars list) }
     requires of_list { is_list (shape_of space.old.vars list) ≡ true }
     requires fit { convertible (shape_of space.old.vars dest) (element_of (shape_of space.old.vars list)) ≡ true }
-    ensures { (d : Devices) → Does Done (values_stored space.old.vars (place_of space.old.vars dest ∷ []) (index_means d (given space.old.vars dest) (given space.old.vars list) (given_or_left space.old.vars at))) space.old result space.new }
+    ensures does { (d : Devices) → Does Done (values_stored space.old.vars (place_of space.old.vars dest ∷ []) (index_means d (given space.old.vars dest) (given space.old.vars list) (given_or_left space.old.vars at))) space.old result space.new }
+    ensures leaves { Leaves (dest ∷ []) space.old space.new }
 {
     let k = word_or(space, at, 0);
     if let (Some(number), Some(numbers)) = (space.spot(dest), space.list_spot(list)) {
@@ -72,7 +74,8 @@ pub fn replace(
     requires of_list { is_list (shape_of space.old.vars list) ≡ true }
     requires fit { convertible (shape_of space.old.vars dest) (shape_of space.old.vars list) ≡ true }
     requires goes { goes_into (shape_of space.old.vars list) (shape_of space.old.vars new) ≡ true }
-    ensures { (d : Devices) → Does Done (values_stored space.old.vars (place_of space.old.vars dest ∷ []) (replace_means d (given space.old.vars dest) (given space.old.vars list) (given_or_left space.old.vars at) (given space.old.vars new))) space.old result space.new }
+    ensures does { (d : Devices) → Does Done (values_stored space.old.vars (place_of space.old.vars dest ∷ []) (replace_means d (given space.old.vars dest) (given space.old.vars list) (given_or_left space.old.vars at) (given space.old.vars new))) space.old result space.new }
+    ensures leaves { Leaves (dest ∷ []) space.old space.new }
 {
     let k = word_or(space, at, 0);
     if let Some(spots) = lists_of_a_kind(space, dest, list) {
@@ -117,7 +120,8 @@ pub fn array_size(alloc: Global, space: &mut Space, dest: u16, list: u16)
     requires dest { IsSome (name_of space.old.vars dest) }
     requires list { IsSome (name_of space.old.vars list) }
     requires number { is_number (shape_of space.old.vars dest) ≡ true }
-    ensures { (d : Devices) → Does Done (values_stored space.old.vars (place_of space.old.vars dest ∷ []) (size_means d (given space.old.vars dest) (given space.old.vars list))) space.old (Ok tt) space.new }
+    ensures does { (d : Devices) → Does Done (values_stored space.old.vars (place_of space.old.vars dest ∷ []) (size_means d (given space.old.vars dest) (given space.old.vars list))) space.old (Ok tt) space.new }
+    ensures stays { TableStays space.old space.new }
 {
     space.set(dest, i64::from(length_of(alloc, space, list)));
 }
@@ -136,7 +140,8 @@ pub fn subset(
     requires list { IsSome (name_of space.old.vars list) }
     requires of_list { is_list (shape_of space.old.vars list) ≡ true }
     requires fit { convertible (shape_of space.old.vars dest) (shape_of space.old.vars list) ≡ true }
-    ensures { (d : Devices) → Does Done (values_stored space.old.vars (place_of space.old.vars dest ∷ []) (subset_means d (given space.old.vars dest) (given space.old.vars list) (given_or_left space.old.vars at) (given_or_left space.old.vars count))) space.old result space.new }
+    ensures does { (d : Devices) → Does Done (values_stored space.old.vars (place_of space.old.vars dest ∷ []) (subset_means d (given space.old.vars dest) (given space.old.vars list) (given_or_left space.old.vars at) (given_or_left space.old.vars count))) space.old result space.new }
+    ensures leaves { Leaves (dest ∷ []) space.old space.new }
 {
     let length = length_of(alloc, space, list);
     let from = word_or(space, at, 0).min(length);

@@ -1,10 +1,11 @@
 // Elements of lists of lists of numbers, which are read and stored in their place.
 
-ghost use Rattle.std.specs.Prelude.{◌≡◌, ℕ, [], length, slice_index_or, slice_set, IfSome, None};
+ghost use Rattle.std.specs.Prelude.{◌≡◌, ℕ, [], length, slice_index_or, slice_set, IfSome, None, ◌∷◌};
 ghost use Rattle.nxt_types.specs.Arithmetic.{leaf_size as size_of_leaf};
 ghost use Rattle.nxt_types.specs.Shapes.{Array, Number};
 ghost use Rattle.nxt_types.specs.declared.kind.Kind.{Kind};
 ghost use Rattle.nxt_model.specs.Values.{elements, list_of};
+ghost use Rattle.nxt_space.specs.Keeping.{Leaves};
 ghost use Rattle.nxt_space.specs.Outcomes.{Does};
 ghost use Rattle.nxt_space.specs.Spots.{IsListSpot, IsInnerSpot};
 ghost use Rattle.nxt_space.specs.Variables.{AreSound, shape_of, value_of, with_value};
@@ -37,7 +38,8 @@ pub fn copy_element(
     requires to { (i : ℕ) × IsListSpot space.old.vars i to }
     requires lists { (j : ℕ) × IsInnerSpot space.old.vars j lists }
     requires kind { lists.kind ≡ to.kind }
-    ensures { (i j : ℕ) → IsListSpot space.old.vars i to → IsInnerSpot space.old.vars j lists → Does Done (with_value space.old.vars i (slice_index_or (elements (value_of space.old.vars j)) k (list_of []))) space.old result space.new }
+    ensures does { (i j : ℕ) → IsListSpot space.old.vars i to → IsInnerSpot space.old.vars j lists → Does Done (with_value space.old.vars i (slice_index_or (elements (value_of space.old.vars j)) k (list_of []))) space.old result space.new }
+    ensures leaves { (i : ℕ) → IsListSpot space.old.vars i to → Leaves (i ∷ []) space.old space.new }
 {
     space.copy_from_inner(to, lists, k)?;
     Ok(())
@@ -55,7 +57,8 @@ pub fn put_element(
     requires lists { (i : ℕ) × IsInnerSpot space.old.vars i lists }
     requires new { (j : ℕ) × IsListSpot space.old.vars j new }
     requires kind { new.kind ≡ lists.kind }
-    ensures { (i j : ℕ) → IsInnerSpot space.old.vars i lists → IsListSpot space.old.vars j new → Does Done (with_value space.old.vars i (list_of (slice_set (elements (value_of space.old.vars i)) k (value_of space.old.vars j)))) space.old result space.new }
+    ensures does { (i j : ℕ) → IsInnerSpot space.old.vars i lists → IsListSpot space.old.vars j new → Does Done (with_value space.old.vars i (list_of (slice_set (elements (value_of space.old.vars i)) k (value_of space.old.vars j)))) space.old result space.new }
+    ensures leaves { (i : ℕ) → IsInnerSpot space.old.vars i lists → Leaves (i ∷ []) space.old space.new }
 {
     space.copy_to_inner(lists, k, new)?;
     Ok(())

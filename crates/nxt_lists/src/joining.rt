@@ -1,9 +1,10 @@
 // Lists of numbers that stand one behind another, built of numbers and of such lists.
 
-ghost use Rattle.std.specs.Prelude.{◌≡◌, ◌++◌, ◌*◌, ◌≤◌, ◌<◌, ◌^◌, ℕ, List, None, length, All, IfOk, IfSome, OnOk};
+ghost use Rattle.std.specs.Prelude.{◌≡◌, ◌++◌, ◌*◌, ◌≤◌, ◌<◌, ◌^◌, ℕ, List, None, length, All, IfOk, IfSome, OnOk, ◌∷◌, []};
 ghost use Rattle.nxt_types.specs.Arithmetic.{leaf_size as size_of_leaf};
 ghost use Rattle.nxt_types.specs.declared.kind.Kind.{Kind};
 ghost use Rattle.nxt_model.specs.Values.{Value, elements, list_of, stored};
+ghost use Rattle.nxt_space.specs.Keeping.{Leaves};
 ghost use Rattle.nxt_space.specs.Outcomes.{Does};
 ghost use Rattle.nxt_space.specs.Spots.{IsListSpot};
 ghost use Rattle.nxt_space.specs.Variables.{AreSound, shape_of, value_of, with_value};
@@ -98,7 +99,8 @@ pub fn store_joined(
     requires numbers { All (GivesNumbers space.old.vars to.kind) sources.now }
     requires count { count ≡ length (pieces_of space.old.vars dest sources.now) }
     requires few { count ≤ 2 ^ 32 }
-    ensures { Does Done (with_value space.old.vars dest (stored (shape_of space.old.vars dest) (list_of (pieces_of space.old.vars dest sources.now)))) space.old result space.new }
+    ensures does { Does Done (with_value space.old.vars dest (stored (shape_of space.old.vars dest) (list_of (pieces_of space.old.vars dest sources.now)))) space.old result space.new }
+    ensures leaves { Leaves (dest ∷ []) space.old space.new }
 {
     check_room(space, dest, count, NONE)?;
     match sources {
@@ -147,7 +149,8 @@ fn extend_numbers(
     requires dest { IsListSpot space.old.vars dest to }
     requires numbers { All (GivesNumbers space.old.vars to.kind) sources.now }
     requires few { length (pieces_of space.old.vars dest sources.now) * size_of_leaf to.kind < 2 ^ 31 }
-    ensures { Does Done (with_value space.old.vars dest (stored (shape_of space.old.vars dest) (list_of (elements (value_of space.old.vars dest) ++ pieces_of space.old.vars dest sources.now)))) space.old result space.new }
+    ensures does { Does Done (with_value space.old.vars dest (stored (shape_of space.old.vars dest) (list_of (elements (value_of space.old.vars dest) ++ pieces_of space.old.vars dest sources.now)))) space.old result space.new }
+    ensures leaves { Leaves (dest ∷ []) space.old space.new }
 {
     let more = joined_numbers(alloc, space, dest, to, sources, 0)?;
     space.extend_list(to, more.as_slice())?;

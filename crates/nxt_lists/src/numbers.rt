@@ -1,10 +1,11 @@
 // Lists of numbers that stand one behind another, stored by their bytes.
 
-ghost use Rattle.std.specs.Prelude.{◌≡◌, ◌≤◌, ◌<◌, ◌+◌, ◌^◌, ◌%◌, ◌++◌, ℕ, List, length, replicate, slice_range, slice_set, IfOk, OnOk};
+ghost use Rattle.std.specs.Prelude.{◌≡◌, ◌≤◌, ◌<◌, ◌+◌, ◌^◌, ◌%◌, ◌++◌, ℕ, List, length, replicate, slice_range, slice_set, IfOk, OnOk, ◌∷◌, []};
 ghost use Rattle.nxt_types.specs.Arithmetic.{leaf_size as size_of_leaf};
 ghost use Rattle.nxt_types.specs.Pool.{pool_size};
 ghost use Rattle.nxt_model.specs.Means.Arrays.{overwritten};
 ghost use Rattle.nxt_model.specs.Values.{Value, elements, list_of, stored, word_of};
+ghost use Rattle.nxt_space.specs.Keeping.{Leaves};
 ghost use Rattle.nxt_space.specs.Outcomes.{Does};
 ghost use Rattle.nxt_space.specs.Spots.{IsSpot, IsListSpot};
 ghost use Rattle.nxt_space.specs.Variables.{AreSound, shape_of, value_of, with_value};
@@ -34,7 +35,8 @@ pub fn replace_number(
     requires from { IsListSpot space.old.vars list spots.1 }
     requires kind { spots.1.kind ≡ spots.0.kind }
     requires new { (j : ℕ) × IsSpot space.old.vars j new }
-    ensures { (j : ℕ) → IsSpot space.old.vars j new → Does Done (with_value space.old.vars dest (stored (shape_of space.old.vars dest) (list_of (slice_set (elements (value_of space.old.vars list)) k (value_of space.old.vars j))))) space.old result space.new }
+    ensures does { (j : ℕ) → IsSpot space.old.vars j new → Does Done (with_value space.old.vars dest (stored (shape_of space.old.vars dest) (list_of (slice_set (elements (value_of space.old.vars list)) k (value_of space.old.vars j))))) space.old result space.new }
+    ensures leaves { Leaves (dest ∷ []) space.old space.new }
 {
     let word = space.word(new);
     take_over(space, dest, list, spots)?;
@@ -56,7 +58,8 @@ pub fn replace_numbers(
     requires kind { spots.1.kind ≡ spots.0.kind }
     requires new { (m : ℕ) × IsListSpot space.old.vars m new }
     requires new_kind { new.kind ≡ spots.0.kind }
-    ensures { (i j m : ℕ) → IsListSpot space.old.vars i spots.0 → IsListSpot space.old.vars j spots.1 → IsListSpot space.old.vars m new → Does Done (with_value space.old.vars i (stored (shape_of space.old.vars i) (list_of (overwritten (elements (value_of space.old.vars j)) k (elements (value_of space.old.vars m)))))) space.old result space.new }
+    ensures does { (i j m : ℕ) → IsListSpot space.old.vars i spots.0 → IsListSpot space.old.vars j spots.1 → IsListSpot space.old.vars m new → Does Done (with_value space.old.vars i (stored (shape_of space.old.vars i) (list_of (overwritten (elements (value_of space.old.vars j)) k (elements (value_of space.old.vars m)))))) space.old result space.new }
+    ensures leaves { (i : ℕ) → IsListSpot space.old.vars i spots.0 → Leaves (i ∷ []) space.old space.new }
 {
     let (to, list) = spots;
     let length = space.count(list);
@@ -80,7 +83,8 @@ fn take_over(
     requires to { IsListSpot space.old.vars dest spots.0 }
     requires from { IsListSpot space.old.vars list spots.1 }
     requires kind { spots.1.kind ≡ spots.0.kind }
-    ensures { Does Done (with_value space.old.vars dest (value_of space.old.vars list)) space.old result space.new }
+    ensures does { Does Done (with_value space.old.vars dest (value_of space.old.vars list)) space.old result space.new }
+    ensures leaves { Leaves (dest ∷ []) space.old space.new }
 {
     if dest == list {
         return Ok(());
@@ -102,7 +106,8 @@ pub fn store_section(
     requires list { (j : ℕ) × IsListSpot space.old.vars j list × (end ≤ length (elements (value_of space.old.vars j))) }
     requires kind { list.kind ≡ to.kind }
     requires ordered { from ≤ end }
-    ensures { (i j : ℕ) → IsListSpot space.old.vars i to → IsListSpot space.old.vars j list → Does Done (with_value space.old.vars i (stored (shape_of space.old.vars i) (list_of (slice_range (elements (value_of space.old.vars j)) from end)))) space.old result space.new }
+    ensures does { (i j : ℕ) → IsListSpot space.old.vars i to → IsListSpot space.old.vars j list → Does Done (with_value space.old.vars i (stored (shape_of space.old.vars i) (list_of (slice_range (elements (value_of space.old.vars j)) from end)))) space.old result space.new }
+    ensures leaves { (i : ℕ) → IsListSpot space.old.vars i to → Leaves (i ∷ []) space.old space.new }
 {
     let mut bytes = Bytes::new(alloc);
     push_section(space, list, from, end, &mut bytes)?;
@@ -139,7 +144,8 @@ pub fn store_copies(
     requires sound { AreSound space.old.vars }
     requires to { IsListSpot space.old.vars dest to }
     requires number { (j : ℕ) × IsSpot space.old.vars j number }
-    ensures { (j : ℕ) → IsSpot space.old.vars j number → Does Done (with_value space.old.vars dest (stored (shape_of space.old.vars dest) (list_of (replicate count (value_of space.old.vars j))))) space.old result space.new }
+    ensures does { (j : ℕ) → IsSpot space.old.vars j number → Does Done (with_value space.old.vars dest (stored (shape_of space.old.vars dest) (list_of (replicate count (value_of space.old.vars j))))) space.old result space.new }
+    ensures leaves { Leaves (dest ∷ []) space.old space.new }
 {
     check_room(space, dest, u64::from(count), NONE)?;
     let bytes = bytes_of_copies(alloc, to.kind(), space.word(number), count)?;
@@ -162,7 +168,8 @@ pub fn store_numbers(space: &mut Space, to: ListSpot, bytes: &Bytes) -> Result<(
     requires to { (i : ℕ) × IsListSpot space.old.vars i to }
     requires whole { length bytes.now % size_of_leaf to.kind ≡ 0 }
     requires small { length bytes.now < 2 ^ 32 }
-    ensures { (i : ℕ) (vs : List Value) → IsListSpot space.old.vars i to → AreStored to.kind bytes.now vs → Does Done (with_value space.old.vars i (stored (shape_of space.old.vars i) (list_of vs))) space.old result space.new }
+    ensures does { (i : ℕ) (vs : List Value) → IsListSpot space.old.vars i to → AreStored to.kind bytes.now vs → Does Done (with_value space.old.vars i (stored (shape_of space.old.vars i) (list_of vs))) space.old result space.new }
+    ensures leaves { (i : ℕ) → IsListSpot space.old.vars i to → Leaves (i ∷ []) space.old space.new }
 {
     space.set_list(to, bytes.as_slice())?;
     Ok(())

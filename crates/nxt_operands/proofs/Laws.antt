@@ -16,3 +16,7 @@ pub mod Stored
 pub mod Shapes
 -- Lists of numbers that stand in their place, with other elements.
 pub mod InPlace
+-- A number that is stored leaves all lists of numbers.
+pub mod Beside
+-- A statement that writes to an entry and then changes no row of the table.
+pub mod Leaving

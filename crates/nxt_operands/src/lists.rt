@@ -7,6 +7,7 @@ ghost use Rattle.nxt_types.specs.declared.kind.Kind.{Kind};
 ghost use Rattle.nxt_types.specs.Arithmetic.{leaf_size as size_of_leaf, width_of, word};
 ghost use Rattle.nxt_model.specs.Values.{Num, elements, list_of, number, stored};
 ghost use Rattle.nxt_space.specs.Outcomes.{Does};
+ghost use Rattle.nxt_space.specs.Keeping.{TableStays};
 ghost use Rattle.nxt_space.specs.Spots.{IsSpot, IsListSpot, numbers_in_bytes};
 ghost use Rattle.nxt_space.specs.Variables.{AreSound, shape_of, value_of, with_value};
 ghost use Rattle.nxt_values.specs.Writes.{bytes_of_number};
@@ -37,7 +38,8 @@ pub fn pick(space: &mut Space, dest: Spot, list: ListSpot, k: u32)
     requires sound { AreSound space.old.vars }
     requires dest { (i : ℕ) × IsSpot space.old.vars i dest }
     requires list { (j : ℕ) × IsListSpot space.old.vars j list }
-    ensures { (i j : ℕ) → IsSpot space.old.vars i dest → IsListSpot space.old.vars j list → Does Done (with_value space.old.vars i (stored (shape_of space.old.vars i) (slice_index_or (elements (value_of space.old.vars j)) k (Num (pos 0))))) space.old (Ok tt) space.new }
+    ensures does { (i j : ℕ) → IsSpot space.old.vars i dest → IsListSpot space.old.vars j list → Does Done (with_value space.old.vars i (stored (shape_of space.old.vars i) (slice_index_or (elements (value_of space.old.vars j)) k (Num (pos 0))))) space.old (Ok tt) space.new }
+    ensures stays { TableStays space.old space.new }
 {
     let word = space.element(list, k);
     space.set_word(dest, word);
@@ -49,7 +51,8 @@ pub fn put(space: &mut Space, list: ListSpot, k: u32, x: Spot)
     requires sound { AreSound space.old.vars }
     requires list { (i : ℕ) × IsListSpot space.old.vars i list }
     requires x { (j : ℕ) × IsSpot space.old.vars j x }
-    ensures { (i j : ℕ) → IsListSpot space.old.vars i list → IsSpot space.old.vars j x → Does Done (with_value space.old.vars i (stored (shape_of space.old.vars i) (list_of (slice_set (elements (value_of space.old.vars i)) k (value_of space.old.vars j))))) space.old (Ok tt) space.new }
+    ensures does { (i j : ℕ) → IsListSpot space.old.vars i list → IsSpot space.old.vars j x → Does Done (with_value space.old.vars i (stored (shape_of space.old.vars i) (list_of (slice_set (elements (value_of space.old.vars i)) k (value_of space.old.vars j))))) space.old (Ok tt) space.new }
+    ensures stays { TableStays space.old space.new }
 {
     let word = space.word(x);
     space.set_element(list, k, word);

@@ -1,9 +1,10 @@
 // What numbers spell is stored, where the pool has room for it.
 
-ghost use Rattle.std.specs.Prelude.{◌≡◌, ◌≤◌, OnOk, IfErr, Err, IsSome};
+ghost use Rattle.std.specs.Prelude.{◌∷◌, [], ◌≡◌, ◌≤◌, OnOk, IfErr, Err, IsSome};
 ghost use Rattle.nxt_types.specs.Pool.{pool_size};
 ghost use Rattle.nxt_model.specs.Values.{Value};
 ghost use Rattle.nxt_values.specs.Fills.{filled};
+ghost use Rattle.nxt_space.specs.Keeping.{Leaves};
 ghost use Rattle.nxt_space.specs.Outcomes.{Does};
 ghost use Rattle.nxt_values.specs.Sizes.{IsCountable, size_in, size_of_filled};
 ghost use Rattle.nxt_space.specs.Variables.{AreSound, name_of, shape_of, with_value, with_values, footprint_of};
@@ -29,7 +30,8 @@ pub fn check_room(space: &Space, dest: u16, count: u64, elements: Size) -> Resul
 pub fn store(space: &mut Space, dest: u16, flat: &Flat) -> Result<(), OpFault>
     requires named { IsSome (name_of space.old.vars dest) }
     requires countable { IsCountable (size_of_filled (shape_of space.old.vars dest) flat.now) }
-    ensures { Does Done (with_value space.old.vars dest (filled (shape_of space.old.vars dest) flat.now).0) space.old result space.new }
+    ensures does { Does Done (with_value space.old.vars dest (filled (shape_of space.old.vars dest) flat.now).0) space.old result space.new }
+    ensures leaves { Leaves (dest ∷ []) space.old space.new }
 {
     space.store(dest, flat)?;
     Ok(())

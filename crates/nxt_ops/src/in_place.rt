@@ -1,7 +1,8 @@
 // Operators on lists of numbers that stand one behind another, in passes over their words.
 
-ghost use Rattle.std.specs.Prelude.{◌≡◌, ◌≤◌, ℕ, length, IfOk, IfSome};
+ghost use Rattle.std.specs.Prelude.{◌≡◌, ◌≤◌, ℕ, length, IfOk, IfSome, ◌∷◌, []};
 ghost use Rattle.nxt_model.specs.Values.{number, stored};
+ghost use Rattle.nxt_space.specs.Keeping.{Leaves};
 ghost use Rattle.nxt_space.specs.Variables.{shape_of, value_of, with_value};
 ghost use Rattle.nxt_space.specs.Outcomes.{Does};
 ghost use Rattle.nxt_space.specs.Spots.{IsListSpot, IsSpot};
@@ -34,7 +35,8 @@ pub fn convert_list(
 ) -> Result<(), OpFault>
     requires to { (i : ℕ) × IsListSpot space.old.vars i to }
     requires from { (j : ℕ) × IsListSpot space.old.vars j from }
-    ensures { (i j : ℕ) → IsListSpot space.old.vars i to → IsListSpot space.old.vars j from → Does Done (with_value space.old.vars i (stored (shape_of space.old.vars i) (value_of space.old.vars j))) space.old result space.new }
+    ensures does { (i j : ℕ) → IsListSpot space.old.vars i to → IsListSpot space.old.vars j from → Does Done (with_value space.old.vars i (stored (shape_of space.old.vars i) (value_of space.old.vars j))) space.old result space.new }
+    ensures leaves { (i : ℕ) → IsListSpot space.old.vars i to → Leaves (i ∷ []) space.old space.new }
 {
     let words = words_in(alloc, from.kind(), space.bytes(from))?;
     store_words(alloc, space, to, &words)

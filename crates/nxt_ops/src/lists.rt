@@ -1,11 +1,12 @@
 // Operators on lists of numbers, element by element.
 
-ghost use Rattle.std.specs.Prelude.{◌≡◌, ◌<◌, ◌^◌, true, false, length, IfOk, IsSome};
+ghost use Rattle.std.specs.Prelude.{◌≡◌, ◌<◌, ◌^◌, true, false, length, IfOk, IsSome, ◌∷◌, []};
 ghost use Rattle.nxt_types.specs.OperandRules.{is_plain, are_alike};
 ghost use Rattle.nxt_types.specs.Shapes.{is_number as is_number_shape};
 ghost use Rattle.nxt_model.specs.Means.Effects.{element};
 ghost use Rattle.nxt_model.specs.Means.Numbers.{either_signed};
 ghost use Rattle.nxt_model.specs.Values.{stored};
+ghost use Rattle.nxt_space.specs.Keeping.{Leaves};
 ghost use Rattle.nxt_space.specs.Variables.{AreSound, name_of, shape_of, value_of, with_value};
 ghost use Rattle.nxt_space.specs.Outcomes.{Does};
 ghost use Rattle.nxt_operands.specs.Numbers.{AreNumbers, numbers_in};
@@ -45,7 +46,8 @@ pub fn combine_lists(
     requires y { IsSome (name_of space.old.vars y) }
     requires list { is_number_shape (shape_of space.old.vars dest) ≡ false }
     requires fit { AllTrue (asked_of_two operator (shape_of space.old.vars dest) (shape_of space.old.vars x) (shape_of space.old.vars y)) }
-    ensures { Does Done (with_value space.old.vars dest (stored (shape_of space.old.vars dest) (value_of_two operator (shape_of space.old.vars dest) (given space.old.vars x) (given space.old.vars y)))) space.old result space.new }
+    ensures does { Does Done (with_value space.old.vars dest (stored (shape_of space.old.vars dest) (value_of_two operator (shape_of space.old.vars dest) (given space.old.vars x) (given space.old.vars y)))) space.old result space.new }
+    ensures leaves { Leaves (dest ∷ []) space.old space.new }
 {
     let signed = either_has_signed_elements(space, x, y);
     if let (Some(to), Some(x), Some(y)) = (
@@ -74,7 +76,8 @@ pub fn map_list(
     requires list { is_number_shape (shape_of space.old.vars dest) ≡ false }
     requires plain { is_plain (shape_of space.old.vars dest) ≡ true }
     requires fit { are_alike (shape_of space.old.vars dest) (shape_of space.old.vars x) ≡ true }
-    ensures { Does Done (with_value space.old.vars dest (stored (shape_of space.old.vars dest) (value_of_one operator (shape_of space.old.vars dest) (given space.old.vars x)))) space.old result space.new }
+    ensures does { Does Done (with_value space.old.vars dest (stored (shape_of space.old.vars dest) (value_of_one operator (shape_of space.old.vars dest) (given space.old.vars x)))) space.old result space.new }
+    ensures leaves { Leaves (dest ∷ []) space.old space.new }
 {
     let signed = has_signed_elements(space, x);
     if let Some((to, from)) = two_lists(space, dest, x) {

@@ -1,9 +1,10 @@
 // Lists of numbers as words, which plain passes read, change and write. A pass has its kind or its operator as a constant.
 
-ghost use Rattle.std.specs.Prelude.{◌≡◌, ◌≤◌, ◌+◌, ◌*◌, length, pos, IfOk, ℕ};
+ghost use Rattle.std.specs.Prelude.{◌≡◌, ◌≤◌, ◌+◌, ◌*◌, length, pos, IfOk, ℕ, ◌∷◌, []};
 ghost use Rattle.nxt_types.specs.Arithmetic.{leaf_size as size_of_leaf};
 ghost use Rattle.nxt_types.specs.Pool.{pool_size};
 ghost use Rattle.nxt_model.specs.Values.{elements, stored};
+ghost use Rattle.nxt_space.specs.Keeping.{Leaves};
 ghost use Rattle.nxt_space.specs.Outcomes.{Does};
 ghost use Rattle.nxt_space.specs.Spots.{IsListSpot, numbers_in_bytes};
 ghost use Rattle.nxt_space.specs.Variables.{shape_of, with_value};
@@ -131,7 +132,8 @@ pub fn store_words(
 ) -> Result<(), OpFault>
     requires to { (i : ℕ) × IsListSpot space.old.vars i to }
     requires few { length words.now ≤ pool_size }
-    ensures { (i : ℕ) → IsListSpot space.old.vars i to → Does Done (with_value space.old.vars i (stored (shape_of space.old.vars i) (list_of_words words.now))) space.old result space.new }
+    ensures does { (i : ℕ) → IsListSpot space.old.vars i to → Does Done (with_value space.old.vars i (stored (shape_of space.old.vars i) (list_of_words words.now))) space.old result space.new }
+    ensures leaves { (i : ℕ) → IsListSpot space.old.vars i to → Leaves (i ∷ []) space.old space.new }
 {
     let bytes = bytes_of(alloc, to.kind(), words)?;
     space.set_list(to, bytes.as_slice())?;

@@ -1,6 +1,6 @@
 // Statements that compute with variables, or jump.
 
-ghost use Rattle.std.specs.Prelude.{◌≡◌, true, false, IsSome, pos};
+ghost use Rattle.std.specs.Prelude.{◌≡◌, true, false, IsSome, pos, ◌∷◌, []};
 ghost use Rattle.nxt_types.specs.OperandRules.{AreFit, is_plain, are_alike};
 ghost use Rattle.nxt_types.specs.Shapes.{convertible, is_number as is_number_shape};
 ghost use Rattle.nxt_model.specs.Devices.{Devices};
@@ -8,10 +8,11 @@ ghost use Rattle.nxt_model.specs.SystemCalls.{Clock};
 ghost use Rattle.nxt_model.specs.Means.Numbers.{holds as holds_of, truth};
 ghost use Rattle.nxt_model.specs.Values.{Num, stored};
 ghost use Rattle.nxt_ops.specs.Ready.{on_numbers};
+ghost use Rattle.nxt_space.specs.Keeping.{TableStays, Leaves};
 ghost use Rattle.nxt_space.specs.Variables.{AreSound, name_of, shape_of, value_of, with_value};
 ghost use Rattle.nxt_space.specs.Outcomes.{Does};
 ghost use Rattle.nxt_operands.specs.Operands.{Done, given};
-ghost use Rattle.nxt_ops.specs.Ops.{CanRun, statement_in, next_of, effect_in, values_after, stores, runs as does_run, two_of as operator_on_two, one_of as operator_on_one};
+ghost use Rattle.nxt_ops.specs.Ops.{dests, CanRun, statement_in, next_of, effect_in, values_after, stores, runs as does_run, two_of as operator_on_two, one_of as operator_on_one};
 
 use crate::comparing::holds;
 use crate::in_place::{convert_list, two_lists};
@@ -65,7 +66,8 @@ pub fn runs(op: Op) -> bool
 /// Manipulation" and "Control Flow"). Where it is refused nothing has changed.
 pub fn run_op(alloc: Global, i: &Instr, toc: &Toc, space: &mut Space) -> Result<Next, OpFault>
     requires { CanRun i.now toc.now space.old.vars }
-    ensures { (d : Devices) (t : Clock) → Does (λ next. next ≡ next_of i.now (effect_in space.old.vars i.now d t).jumps) (values_after space.old.vars i.now d t) space.old result space.new }
+    ensures does { (d : Devices) (t : Clock) → Does (λ next. next ≡ next_of i.now (effect_in space.old.vars i.now d t).jumps) (values_after space.old.vars i.now d t) space.old result space.new }
+    ensures leaves { Leaves (dests i.now) space.old space.new }
 {
     // From place 0 it goes on at 0 where it jumps there, and else at 1.
     if let Some(place) = run_ready(&made_ready(i, space, 0), 0, space) {
@@ -96,7 +98,8 @@ fn compute(alloc: Global, i: &Instr, space: &mut Space) -> Result<(), OpFault>
     requires lists { on_numbers space.old.vars i.now ≡ false }
     requires sound { AreSound space.old.vars }
     requires fit { AreFit space.old.vars.shapes (statement_in i.now) }
-    ensures { (d : Devices) (t : Clock) → Does Done (values_after space.old.vars i.now d t) space.old result space.new }
+    ensures does { (d : Devices) (t : Clock) → Does Done (values_after space.old.vars i.now d t) space.old result space.new }
+    ensures leaves { Leaves (i.now.a ∷ []) space.old space.new }
 {
     if let Some(operator) = two_of(i.op, i.cmp) {
         if is_number(space, i.a) {
@@ -156,7 +159,8 @@ fn store_comparison(
     requires plain { is_plain (shape_of space.old.vars x) ≡ true }
     requires list { is_number_shape (shape_of space.old.vars x) ≡ false }
     requires fit { are_alike (shape_of space.old.vars x) (shape_of space.old.vars y) ≡ true }
-    ensures { Does Done (with_value space.old.vars dest (stored (shape_of space.old.vars dest) (Num (pos (truth (holds_of cmp (given space.old.vars x) (given space.old.vars y))))))) space.old result space.new }
+    ensures does { Does Done (with_value space.old.vars dest (stored (shape_of space.old.vars dest) (Num (pos (truth (holds_of cmp (given space.old.vars x) (given space.old.vars y))))))) space.old result space.new }
+    ensures stays { TableStays space.old space.new }
 {
     let held = holds(alloc, space, cmp, x, y)?;
     space.set(dest, i64::from(held));
@@ -169,7 +173,8 @@ fn copy(alloc: Global, space: &mut Space, dest: u16, source: u16) -> Result<(), 
     requires dest { IsSome (name_of space.old.vars dest) }
     requires source { IsSome (name_of space.old.vars source) }
     requires fit { convertible (shape_of space.old.vars dest) (shape_of space.old.vars source) ≡ true }
-    ensures { Does Done (with_value space.old.vars dest (stored (shape_of space.old.vars dest) (value_of space.old.vars source))) space.old result space.new }
+    ensures does { Does Done (with_value space.old.vars dest (stored (shape_of space.old.vars dest) (value_of space.old.vars source))) space.old result space.new }
+    ensures leaves { Leaves (dest ∷ []) space.old space.new }
 {
     if let Some((to, from)) = lists_of_a_kind(space, dest, source) {
         space.copy_list(to, from)?;

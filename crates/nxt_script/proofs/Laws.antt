@@ -2,3 +2,7 @@
 
 -- No row of a script is a dump.
 pub mod PlainRows
+-- Records that end in a front of a script.
+pub mod Records
+-- A bad row comes behind all the others.
+pub mod BadRow

@@ -1,55 +1,49 @@
 -- The rows of a script line by line: what a line at the front adds to the rows of what follows it.
-use Rattle.std.proofs.Common.{◌≡◌, ℕ, zero, suc, ◌+◌, ◌-◌, ◌<◌, ◌≤◌, min, Bool, true, false, cond, List, [], ◌∷◌, ◌++◌, length, take, drop, get_or, refl, sym, ap, ◌∙◌, subst, arith, Option, Some, None, lt-ltb, le-ltb, inl, inr}
+use Rattle.std.proofs.Common.{◌≡◌, ℕ, zero, suc, ◌+◌, ◌-◌, ◌<◌, ◌≤◌, Bool, true, false, cond, List, [], ◌∷◌, ◌++◌, length, take, drop, get_or, refl, sym, ap, ◌∙◌, subst, arith, Option, Some, None, lt-ltb, le-ltb, inl, inr}
 use Rattle.std.proofs.lemmas.Bool.{cases_lt}
-use Rattle.std.proofs.lemmas.List.{length-append, length-take, take-take, take_all, drop_all, take-append-drop, drop_more, take-append-le}
+use Rattle.std.proofs.lemmas.List.{length-append, length-take, take-take, take_all, drop_all, take-append-drop, drop_more}
 use Rattle.std.specs.Prelude.{nat_lt, not}
 use Rattle.std.proofs.lemmas.List.Sums.{prefix_len-le-length, prefix_len_stops}
-use Rattle.std.specs.List.{slice_split, onto_first, AllByRecursion, position_or_len}
+use Rattle.std.specs.List.{slice_split, onto_first, position_or_len}
 use Rattle.nxt_model.specs.declared.event.ScriptRow.{ScriptRow}
 use Rattle.csv.specs.Machine.{next_record}
 use Rattle.csv.specs.Reading.{strip_bom}
 use Rattle.nxt_model.specs.Report.{Whole, Bad, TooLarge}
 use Rattle.nxt_script.specs.RowForms.{row_of}
-use Rattle.nxt_script.specs.Rows.{Counts, Listing, counted, passes_limit, no_rows, with_row, listed, listed_line, list_lines, record_of, ends_line, without_last, is_longer, lines_of, rows_from, rows, no_counts, most_bytes}
+use Rattle.nxt_script.specs.Rows.{Counts, Listing, counted, passes_limit, no_rows, with_row, listed, listed_line, list_lines, record_of, ends_line, without_last, is_longer, lines_of, rows_from, most_bytes}
+use Rattle.nxt_script.specs.Inside.{IsLine, IsFirstLine, taken_by}
 
 -- other bytes, with the other counts kept
 abbrev pub at_bytes : ℕ → Counts → Counts
 at_bytes n c = record c { bytes = n }
 
 -- the number of bytes makes no difference to what follows
-IsBlind : ℕ → (Counts → Listing) → Type 0
+abbrev pub IsBlind : ℕ → (Counts → Listing) → Type 0
 IsBlind n more = (c : Counts) → more (at_bytes n c) ≡ more c
 
 same_listed : (n : ℕ) (more : Counts → Listing) → IsBlind n more → (c : Counts) (o : Option ScriptRow) → listed (at_bytes n c) o more ≡ listed c o more
-unfolding IsBlind
 same_listed n more blind c None = refl
 same_listed n more blind c (Some r) = ap (λ l. cond (passes_limit (counted r c)) (no_rows (Bad (c.records + 1)) true) (with_row r l)) (blind (counted r c))
 
 same_line : (n : ℕ) (more : Counts → Listing) → IsBlind n more → (c : Counts) (o : Option (List (List ℕ))) → listed_line (at_bytes n c) o more ≡ listed_line c o more
-unfolding IsBlind
 same_line n more blind c None = blind c
 same_line n more blind c (Some fields) = same_listed n more blind c (row_of fields)
 
-same_rows : (n : ℕ) (longer : Bool) (lines : List (List ℕ)) → IsBlind n (list_lines longer lines)
-unfolding IsBlind
+pub same_rows : (n : ℕ) (longer : Bool) (lines : List (List ℕ)) → IsBlind n (list_lines longer lines)
 same_rows n longer [] c = refl
 same_rows n longer (l ∷ ls) c = same_line n (list_lines longer ls) (same_rows n longer ls) c (record_of l)
 
 -- ---- the lines
 
--- no byte ends a line
-abbrev pub IsLine : List ℕ → Type 0
-IsLine line = AllByRecursion (λ b. ends_line b ≡ false) line
-
-first_line : (line : List ℕ) (end : ℕ) (rest : List ℕ) → IsLine line → ends_line end ≡ true → slice_split ends_line (line ++ (end ∷ rest)) ≡ line ∷ slice_split ends_line rest
+pub first_line : (line : List ℕ) (end : ℕ) (rest : List ℕ) → IsLine line → ends_line end ≡ true → slice_split ends_line (line ++ (end ∷ rest)) ≡ line ∷ slice_split ends_line rest
 first_line [] end rest none e = rw e refl
 first_line (b ∷ bs) end rest none e = rw none.0 (ap (λ l. onto_first b l) (first_line bs end rest none.1 e))
 
 -- some part is always there
-record IsFull (l : List (List ℕ)) : Type 0 where
-  part : List ℕ
-  parts : List (List ℕ)
-  is : l ≡ part ∷ parts
+pub record IsFull (l : List (List ℕ)) : Type 0 where
+  pub part : List ℕ
+  pub parts : List (List ℕ)
+  pub is : l ≡ part ∷ parts
 
 full_onto : (b : ℕ) (l : List (List ℕ)) → IsFull l → IsFull (onto_first b l)
 full_onto b l f = record { part = b ∷ f.part; parts = f.parts; is = ap (λ k. onto_first b k) f.is }
@@ -58,14 +52,14 @@ full_next : (b : Bool) (x : ℕ) (l : List (List ℕ)) → IsFull l → IsFull (
 full_next true x l f = record { part = []; parts = l; is = refl }
 full_next false x l f = full_onto x l f
 
-some_part : (xs : List ℕ) → IsFull (slice_split ends_line xs)
+pub some_part : (xs : List ℕ) → IsFull (slice_split ends_line xs)
 some_part [] = record { part = []; parts = []; is = refl }
 some_part (x ∷ xs) = full_next (ends_line x) x (slice_split ends_line xs) (some_part xs)
 
-without_last-cons : (line : List ℕ) (l : List (List ℕ)) → IsFull l → without_last (line ∷ l) ≡ line ∷ without_last l
+pub without_last-cons : (line : List ℕ) (l : List (List ℕ)) → IsFull l → without_last (line ∷ l) ≡ line ∷ without_last l
 without_last-cons line l f = ap (λ k. without_last (line ∷ k)) f.is ∙ sym (ap (λ k. line ∷ without_last k) f.is)
 
-take_line : (n : ℕ) (line : List ℕ) (end : ℕ) (rest : List ℕ) → length line + 1 ≤ n → take n (line ++ (end ∷ rest)) ≡ line ++ (end ∷ take (n - (length line + 1)) rest)
+pub take_line : (n : ℕ) (line : List ℕ) (end : ℕ) (rest : List ℕ) → length line + 1 ≤ n → take n (line ++ (end ∷ rest)) ≡ line ++ (end ∷ take (n - (length line + 1)) rest)
 take_line zero line end rest le = absurd (omega (arith, le))
 take_line (suc n) [] end rest le =
     let same : suc n - (length {A = ℕ} [] + 1) ≡ n = omega arith in
@@ -104,14 +98,14 @@ module _ (line rest : List ℕ) (c : Counts) where
   after_line d = list_lines (is_longer (behind line c) rest) (lines_of (behind line c) rest) d
 
   by_row : (o : Option ScriptRow) → listed c o after_line ≡ listed (behind line c) o (λ d. rows_from d rest)
-  unfolding after_line same_rows IsBlind
+  unfolding after_line same_rows
   by_row None = refl
   by_row (Some r) =
       ap (λ l. cond (passes_limit (counted r c)) (no_rows (Bad (c.records + 1)) true) (with_row r l))
       (sym (same_rows (c.bytes + length line + 1) (is_longer (behind line c) rest) (lines_of (behind line c) rest) (counted r c)))
 
   by_record : (o : Option (List (List ℕ))) → listed_line c o after_line ≡ listed_line (behind line c) o (λ d. rows_from d rest)
-  unfolding after_line IsBlind
+  unfolding after_line
   by_record None = sym (same_rows (c.bytes + length line + 1) (is_longer (behind line c) rest) (lines_of (behind line c) rest) c)
   by_record (Some fields) = by_row (row_of fields)
 
@@ -133,7 +127,7 @@ rows_from-nil c le =
     let short : is_longer c [] ≡ false = le-ltb most_bytes (c.bytes + length {A = ℕ} []) (omega (arith, le)) in
     rw short refl
 
-whole_line : (line : List ℕ) → IsLine line → slice_split ends_line line ≡ line ∷ []
+pub whole_line : (line : List ℕ) → IsLine line → slice_split ends_line line ≡ line ∷ []
 whole_line [] none = refl
 whole_line (b ∷ bs) none = rw none.0 (ap (λ l. onto_first b l) (whole_line bs none.1))
 
@@ -163,22 +157,12 @@ rows_from-beyond bytes c lt none =
 
 -- ---- the first line of some bytes
 
--- the first k bytes are a line, and the next one ends it, if there is one
-pub record IsFirstLine (bytes : List ℕ) (k : ℕ) : Type 0 where
-  pub within : k ≤ length bytes
-  pub line : IsLine (take k bytes)
-  pub end : k < length bytes → ends_line (get_or bytes k 0) ≡ true
-
--- how many bytes the line takes, with the byte that ends it
-abbrev pub taken_by : ℕ → List ℕ → ℕ
-taken_by k bytes = min (k + 1) (length bytes)
-
-IsLine-take : (m : ℕ) (xs : List ℕ) → IsLine xs → IsLine (take m xs)
+pub IsLine-take : (m : ℕ) (xs : List ℕ) → IsLine xs → IsLine (take m xs)
 IsLine-take zero xs none = tt
 IsLine-take (suc m) [] none = tt
 IsLine-take (suc m) (x ∷ xs) none = (none.0, IsLine-take m xs none.1)
 
-split_at : (bytes : List ℕ) (k : ℕ) → k < length bytes → bytes ≡ take k bytes ++ (get_or bytes k 0 ∷ drop (k + 1) bytes)
+pub split_at : (bytes : List ℕ) (k : ℕ) → k < length bytes → bytes ≡ take k bytes ++ (get_or bytes k 0 ∷ drop (k + 1) bytes)
 split_at bytes k lt = sym (take-append-drop k bytes) ∙ ap (λ l. take k bytes ++ l) (drop_more bytes k 0 lt)
 
 -- the first line adds its row
@@ -213,16 +197,6 @@ rows_from-too_long bytes k c first below lt =
     let m = most_bytes - c.bytes in
     let le : m ≤ k = omega arith in
     rows_from-beyond bytes c (omega arith) (subst IsLine (take-take m k bytes le) (IsLine-take m (take k bytes) first.line))
-
--- ---- the front of a script
-
--- what stands behind the limit and one more byte makes no difference
-pub rows-front : (front rest : List ℕ) → length front ≡ most_bytes + 1 → rows (front ++ rest) ≡ rows front
-rows-front front rest size =
-    let long : is_longer no_counts front ≡ true = lt-ltb most_bytes (0 + length front) (omega arith) in
-    let longer : is_longer no_counts (front ++ rest) ≡ true = lt-ltb most_bytes (0 + length (front ++ rest)) (omega (arith, length-append front rest)) in
-    let same : take (most_bytes - 0) (front ++ rest) ≡ take (most_bytes - 0) front = take-append-le (most_bytes - 0) front rest (omega arith) in
-    rw (long, longer, same) refl
 
 -- the place of the first byte that ends a line
 first_at : (b : Bool) (x n : ℕ) (xs : List ℕ) → ends_line x ≡ b → IsLine (take n xs) → IsLine (take (cond (not b) (1 + n) 0) (x ∷ xs))

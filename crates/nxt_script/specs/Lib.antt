@@ -4,3 +4,7 @@ pub mod RowForms
 pub mod Rows
 -- A script that is read row by row.
 pub mod Scripts
+-- How far it is taken ahead of its rows.
+pub mod Ahead
+-- Inside of the crate: lines, and the front of a script.
+pub mod Inside

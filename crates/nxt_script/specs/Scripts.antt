@@ -1,27 +1,38 @@
 -- What the next row of a script is.
-use Rattle.std.specs.Prelude.{◌≡◌, ℕ, ◌+◌, ◌≤◌, false, true, List, Option, Some, None, IfSome, option_map, Result, Ok, Err, ⊤}
+use Rattle.std.specs.Prelude.{◌≡◌, ℕ, ◌+◌, ◌≤◌, Bool, false, true, if◌then◌else◌, List, [], ◌++◌, Option, Some, None, IfSome, option_map, Result, Ok, Err, ⊤}
 use Rattle.nxt_model.specs.declared.event.ScriptRow.{ScriptRow}
 use Rattle.nxt_model.specs.Report.{Whole, Bad, TooLarge}
 use Rattle.nxt_script.specs.declared.fault.ScriptFault.{ScriptFault}
 use Rattle.nxt_script.specs.declared.fault.ScriptFault.TheVariants as faults
-use Rattle.nxt_script.specs.Rows.{Counts, Listing, no_rows, with_row, rows, rows_from, most_rows}
+use Rattle.nxt_script.specs.Rows.{Counts, Listing, no_counts, no_rows, with_row, rows_from, most_rows}
 
--- a script: none of its source was taken yet; or what was counted of it, with the bytes that were taken and gave no row yet; or the fault that ended it
+-- the front of a script: what was counted of it, the bytes behind that which were taken and gave no row yet, and whether the source has ended
+pub record Front : Type 0 where
+  pub counts : Counts
+  pub pending : List ℕ
+  pub ended : Bool
+
+-- a script: its front, or the fault that ended it
 pub data Seen : Type 0 where
-  Unread : Seen
-  Reading : Counts → List ℕ → Seen
+  Reading : Front → Seen
   Ended : ScriptFault → Seen
 
--- what is still to come of a script, where that is known; a source that wasn't taken may tell what it has left
+-- a script of which nothing was taken
+abbrev pub unread : Seen
+unread = Reading (record { counts = no_counts; pending = []; ended = false })
+
+-- what is still to come behind a front, where that is known; a source may tell what it has left
+abbrev pub front_to_come : Front → Option (List ℕ) → Option Listing
+front_to_come f left = if f.ended then Some (rows_from f.counts f.pending) else option_map (λ more. rows_from f.counts (f.pending ++ more)) left
+
+-- what is still to come of a script, where that is known
 abbrev pub to_come : Seen → Option (List ℕ) → Option Listing
-to_come Unread left = option_map rows left
-to_come (Reading c pending) left = Some (rows_from c pending)
+to_come (Reading f) left = front_to_come f left
 to_come (Ended f) left = None
 
 -- how many rows a script gave
 abbrev pub rows_given : Seen → ℕ
-rows_given Unread = 0
-rows_given (Reading c pending) = c.records
+rows_given (Reading f) = f.counts.records
 rows_given (Ended f) = 0
 
 -- this end is due
@@ -57,14 +68,9 @@ IsNext before old new after (Err f) = IsFault before f × (new ≡ Ended f)
 -- a call on any script: one that a fault ended answers that fault again
 abbrev pub NextOf : Seen → Option (List ℕ) → Seen → Option (List ℕ) → Result (Option ScriptRow) ScriptFault → Type 0
 NextOf (Ended f) left new left' result = (result ≡ Err f) × (new ≡ Ended f)
-NextOf old left new left' result = IsNext (to_come old left) old new (to_come new left') result
+NextOf (Reading f) left new left' result = IsNext (front_to_come f left) (Reading f) new (to_come new left') result
 
 -- no fault ended the script
 abbrev pub IsOpen : Seen → Type 0
 IsOpen (Ended f) = ⊥
-IsOpen _ = ⊤
-
--- the source was taken, or a fault ended the script
-abbrev pub IsTaken : Seen → Type 0
-IsTaken Unread = ⊥
-IsTaken _ = ⊤
+IsOpen (Reading f) = ⊤

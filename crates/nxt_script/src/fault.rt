@@ -1,5 +1,6 @@
 // Why a script gives no more rows.
 
+use nxt_edge::ReadFault;
 use nxt_types::NoMemory;
 
 /// Why a script gives no more rows. A row's number counts from 1.
@@ -24,5 +25,20 @@ impl From<NoMemory> for ScriptFault {
 
     fn from(_: NoMemory) -> ScriptFault {
         ScriptFault::NoMemory
+    }
+}
+
+impl From<ReadFault> for ScriptFault {
+    ghost use Rattle.std.specs.Prelude.{◌≡◌};
+    ghost use Rattle.nxt_edge.specs.declared.read_write.ReadFault.TheVariants as reads;
+    ghost use Rattle.nxt_script.specs.declared.fault.ScriptFault.TheVariants as faults;
+
+    ghost from_gives = { λ e fault. fault ≡ elim e [ reads.Failed ↦ faults.Failed | reads.NoMemory ↦ faults.NoMemory ] };
+
+    fn from(fault: ReadFault) -> ScriptFault {
+        match fault {
+            ReadFault::Failed => ScriptFault::Failed,
+            ReadFault::NoMemory => ScriptFault::NoMemory,
+        }
     }
 }

@@ -11,7 +11,8 @@ use csv::{ByteRecord, ReaderBuilder};
 use nxt_types::NoMemory;
 use std::alloc::Global;
 
-const LINE_BYTES: usize = 512;
+/// The most bytes of a line that is read.
+pub(crate) const LINE_BYTES: usize = 512;
 
 const BYTE_ORDER_MARK: &[u8] = b"\xEF\xBB\xBF";
 

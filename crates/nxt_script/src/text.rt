@@ -1,23 +1,31 @@
-// The bytes of a script, line by line.
+// The front of a script, line by line.
 
-ghost use Rattle.std.specs.Prelude.{◌≡◌, ◌≢◌, ◌↔◌, ◌≤◌, ◌<◌, [], length, false, IsTrue, IfOk, IfErr, OnOk, Ok, Some, option_map};
+ghost use Rattle.std.specs.Prelude.{◌≡◌, ◌≢◌, ◌↔◌, ◌≤◌, ◌<◌, ◌+◌, ◌⊎◌, ◌++◌, ℕ, List, [], length, true, false, IsTrue, IfSome, IfOk, IfErr, OnOk, OnErr, Ok, Err, Some, option_map};
 ghost use Rattle.std.specs.List.{position_or_len};
+ghost use Rattle.std.specs.Io.KnownBytes.{Consumes};
 ghost use Rattle.csv.specs.Records.{fields_of};
+ghost use Rattle.nxt_edge.specs.Edge.{Rose};
 ghost use Rattle.nxt_script.specs.RowForms.{row_of};
-ghost use Rattle.nxt_script.specs.Rows.{Counts, Listing, bytecodes_in, counted, ends_line, listed, listed_line, no_counts, passes_limit, rows_from};
-ghost use Rattle.nxt_script.specs.Scripts.{IsFault, IsNext, Reading};
+ghost use Rattle.nxt_script.specs.Rows.{Counts, Listing, bytecodes_in, counted, ends_line, listed, most_bytes, no_counts, passes_limit, rows_from};
+ghost use Rattle.nxt_script.specs.Scripts.{Front, IsFault};
+ghost use Rattle.nxt_script.specs.Ahead.{IsNear};
+ghost use Rattle.nxt_script.specs.Inside.{Finds, FindsFault, FindsRecord, HasLine, IsLine, Passes, PassesLine, Reads, MayFollow};
 
 use crate::fault::ScriptFault;
-use crate::record::record;
+use crate::record::{LINE_BYTES, record};
 use crate::row::row;
 use csv::ByteRecord;
+use nxt_edge::{Source, read_some};
 use nxt_model::event::ScriptRow;
 use nxt_types::Bytes;
 use std::alloc::Global;
 use std::marker::Model;
 
 /// The most bytes of a script that count.
-pub(crate) const SCRIPT_BYTES: usize = 16_777_216;
+const SCRIPT_BYTES: usize = 16_777_216;
+
+/// The most bytes that are asked of a source at once.
+const PIECE: usize = 4_096;
 
 const ROWS: u32 = 100_000;
 
@@ -43,70 +51,160 @@ fn bytecodes_of(row: &ScriptRow) -> u32
     }
 }
 
-/// What was read of a script: its lines up to a place were passed, and their rows counted.
+/// The front of a script: the lines that were passed, with their rows counted, and the bytes that were taken behind them.
 #[derive(Drop)]
 pub(crate) struct Text {
-    bytes: Bytes,
+    // So many of these bytes were passed.
+    taken: Bytes,
     at: usize,
+    ended: bool,
+    // So many bytes of the script stand before the place.
+    passed: usize,
     rows: u32,
     bytecodes: u32,
 }
 
 impl Model for Text {
-    ghost use Rattle.std.specs.Prelude.{◌≤◌, ◌+◌, List, ℕ, length, drop};
-    ghost use Rattle.nxt_script.specs.Rows.{Counts, most_bytes, most_rows, most_bytecodes};
+    ghost use Rattle.std.specs.Prelude.{◌≤◌, length, drop};
+    ghost use Rattle.nxt_script.specs.Rows.{most_bytes, most_rows, most_bytecodes};
+    ghost use Rattle.nxt_script.specs.Scripts.{Front};
+    ghost use Rattle.nxt_script.specs.Ahead.{most_ahead};
 
-    ghost Value = { Counts × List ℕ };
+    ghost Value = { Front };
 
-    ghost view = { λ t. (record { bytes = t.at; records = t.rows; bytecodes = t.bytecodes }, drop t.at t.bytes) };
+    ghost view = { λ t. record { counts = record { bytes = t.passed; records = t.rows; bytecodes = t.bytecodes }; pending = drop t.at t.taken; ended = t.ended } };
 
-    ghost invariant = { λ t. (t.at ≤ length t.bytes) × (length t.bytes ≤ most_bytes + 1) × (t.at ≤ most_bytes) × (t.rows ≤ most_rows) × (t.bytecodes ≤ most_bytecodes) };
+    ghost invariant = { λ t. (t.at ≤ length t.taken) × (length t.taken ≤ most_ahead) × (t.passed ≤ most_bytes) × (t.rows ≤ most_rows) × (t.bytecodes ≤ most_bytecodes) };
 }
 
 impl Text {
-    /// Bytes of which no line was passed.
-    pub fn new(bytes: Bytes) -> Text
-        requires { length bytes ≤ 16777217 }
-        ensures { result ≡ (no_counts, bytes) }
+    /// The front of a script of which nothing was taken. It takes no memory.
+    pub fn new(alloc: Global) -> Text
+        ensures { result ≡ record { counts = no_counts; pending = []; ended = false } }
     {
         Text {
-            bytes,
+            taken: Bytes::new(alloc),
             at: 0,
+            ended: false,
+            passed: 0,
             rows: 0,
             bytecodes: 0,
         }
     }
 
-    fn is_at_end(&self) -> bool
-        ensures end { IsTrue result ↔ (self.now.1 ≡ []) }
-        ensures within { self.now.0.bytes ≤ 16777216 }
+    // The bytes that were taken and not passed.
+    fn pending(&self) -> &[u8]
+        ensures bytes { result.now ≡ self.now.pending }
+        ensures few { length self.now.pending ≤ 8192 }
+        ensures within { self.now.counts.bytes ≤ most_bytes }
     {
-        self.at == self.bytes.len()
+        &self.taken.as_slice()[self.at..]
     }
 
-    // Passes a line, and gives its record, if it holds one.
-    fn next_record(&mut self, alloc: Global) -> Result<Option<ByteRecord>, ScriptFault>
-        requires { self.old.1 ≢ [] }
-        ensures ok { IfOk result (λ o. rows_from self.old.0 self.old.1 ≡ listed_line self.new.0 (option_map fields_of o) (λ d. rows_from d self.new.1)) }
-        ensures counts { OnOk result ((self.new.0.records ≡ self.old.0.records) × (self.new.0.bytecodes ≡ self.old.0.bytecodes)) }
-        ensures shorter { OnOk result (length self.new.1 < length self.old.1) }
-        ensures err { IfErr result (λ f. IsFault (Some (rows_from self.old.0 self.old.1)) f × (f ≢ ScriptFault.Failed)) }
+    // How many bytes the first line has, if it is whole.
+    fn first_line(&self) -> Option<usize>
+        ensures some { IfSome result (HasLine self.now) }
+        ensures none { result ≡ None → IsLine self.now.pending × (self.now.ended ≡ false) }
     {
-        let rest = &self.bytes.as_slice()[self.at..];
-        let end = line_end(rest);
-        let taken = (end + 1).min(rest.len());
-        if self.at + taken > SCRIPT_BYTES {
+        let pending = self.pending();
+        let end = line_end(pending);
+        if end < pending.len() || self.ended {
+            Some(end)
+        } else {
+            None
+        }
+    }
+
+    // Reads once. A line that isn't whole stays; of a long one its end stays.
+    fn refill<Q: Source>(&mut self, alloc: Global, source: &mut Q) -> Result<(), ScriptFault>
+        requires line { IsLine self.old.pending }
+        requires going { self.old.ended ≡ false }
+        requires within { self.old.counts.bytes + length self.old.pending ≤ most_bytes }
+        ensures ok { OnOk result ((taken : List ℕ) × Reads self.old self.new (Q.left source.old) (Q.left source.new) taken × Passes self.old self.new taken) }
+        ensures on { OnOk result ((self.new.ended ≡ true) ⊎ (self.old.counts.bytes + length self.old.pending < self.new.counts.bytes + length self.new.pending)) }
+        ensures few { OnOk result (self.old.counts.bytes + length self.old.pending ≤ self.new.counts.bytes + length self.new.pending) }
+        ensures err { OnErr result ((taken : List ℕ) × Reads self.old self.new (Q.left source.old) (Q.left source.new) taken × IsNear (self.old.pending ++ taken)) }
+        ensures fault { IfErr result (λ f. (f ≡ ScriptFault.Failed) ⊎ (f ≡ ScriptFault.NoMemory)) }
+        ensures failed { result ≡ Err ScriptFault.Failed → Rose (Q.faults source.old) (Q.faults source.new) }
+        ensures later { Q.faults source.old ≤ Q.faults source.new }
+    {
+        let pending = self.pending();
+        let passed = pending.len().saturating_sub(LINE_BYTES + 1);
+        let mut taken = Bytes::new(alloc);
+        taken.append(&pending[passed..])?;
+        let count = read_some(source, &mut taken, PIECE)?;
+        self.taken = taken;
+        self.at = 0;
+        self.ended = count == 0;
+        self.passed += passed;
+        Ok(())
+    }
+
+    // Has the first line whole, and gives how many bytes it has. At the script's end it has none.
+    fn whole_line<Q: Source>(&mut self, alloc: Global, source: &mut Q) -> Result<usize, ScriptFault>
+        ensures line { IfOk result (HasLine self.new) }
+        ensures ok { OnOk result ((taken : List ℕ) × Reads self.old self.new (Q.left source.old) (Q.left source.new) taken × Passes self.old self.new taken) }
+        ensures err { IfErr result (λ f. (taken : List ℕ) × Reads self.old self.new (Q.left source.old) (Q.left source.new) taken × IsNear (self.old.pending ++ taken) × FindsFault self.old self.new taken f) }
+        ensures over { self.old.ended ≡ true → (source.new ≡ source.old) × (result ≢ Err ScriptFault.Failed) }
+        ensures failed { result ≡ Err ScriptFault.Failed → Rose (Q.faults source.old) (Q.faults source.new) }
+        ensures later { Q.faults source.old ≤ Q.faults source.new }
+    {
+        loop {
+            if let Some(end) = self.first_line() {
+                return Ok(end);
+            }
+            if self.passed + self.pending().len() > SCRIPT_BYTES {
+                return Err(ScriptFault::TooLarge);
+            }
+            self.refill(alloc, source)?;
+        }
+    }
+
+    // Passes the first line, and gives its record, if it holds one.
+    fn pass_line(&mut self, alloc: Global, end: usize) -> Result<Option<ByteRecord>, ScriptFault>
+        requires { HasLine self.old end }
+        ensures ok { IfOk result (λ o. PassesLine self.old self.new end (option_map fields_of o)) }
+        ensures within { OnOk result (self.new.counts.bytes ≤ most_bytes) }
+        ensures err { IfErr result (λ f. (self.new ≡ self.old) × ((more : List ℕ) → MayFollow self.old more → IsFault (Some (rows_from self.old.counts (self.old.pending ++ more))) f) × (f ≢ ScriptFault.Failed)) }
+    {
+        let pending = self.pending();
+        let taken = (end + 1).min(pending.len());
+        if self.passed + taken > SCRIPT_BYTES {
             return Err(ScriptFault::TooLarge);
         }
-        let found = record(alloc, &rest[..end])?;
+        let found = record(alloc, &pending[..end])?;
         self.at += taken;
+        self.passed += taken;
         Ok(found)
+    }
+
+    // Passes lines up to the first that holds a record, and gives it; `None` at the end.
+    fn next_record<Q: Source>(
+        &mut self,
+        alloc: Global,
+        source: &mut Q,
+    ) -> Result<Option<ByteRecord>, ScriptFault>
+        ensures finds { (taken : List ℕ) × Reads self.old self.new (Q.left source.old) (Q.left source.new) taken × IsNear (self.old.pending ++ taken) × FindsRecord self.old self.new taken result }
+        ensures over { self.old.ended ≡ true → (source.new ≡ source.old) × (result ≢ Err ScriptFault.Failed) }
+        ensures failed { result ≡ Err ScriptFault.Failed → Rose (Q.faults source.old) (Q.faults source.new) }
+        ensures later { Q.faults source.old ≤ Q.faults source.new }
+    {
+        loop {
+            let end = self.whole_line(alloc, source)?;
+            if self.pending().is_empty() {
+                return Ok(None);
+            }
+            if let Some(fields) = self.pass_line(alloc, end)? {
+                return Ok(Some(fields));
+            }
+        }
     }
 
     // The row of a record, which is counted.
     fn count(&mut self, alloc: Global, fields: &ByteRecord) -> Result<ScriptRow, ScriptFault>
-        ensures ok { IfOk result (λ r. (row_of (fields_of fields.now) ≡ Some r) × (passes_limit (counted r self.old.0) ≡ false) × (self.new.0 ≡ counted r self.old.0) × (self.new.1 ≡ self.old.1)) }
-        ensures err { IfErr result (λ f. ((more : Counts → Listing) → IsFault (Some (listed self.old.0 (row_of (fields_of fields.now)) more)) f) × (f ≢ ScriptFault.Failed)) }
+        ensures ok { IfOk result (λ r. (row_of (fields_of fields.now) ≡ Some r) × (passes_limit (counted r self.old.counts) ≡ false) × (self.new ≡ record self.old { counts = counted r self.old.counts })) }
+        ensures few { OnOk result (self.new.counts.records ≤ 100000) }
+        ensures err { IfErr result (λ f. (self.new ≡ self.old) × ((more : Counts → Listing) → IsFault (Some (listed self.old.counts (row_of (fields_of fields.now)) more)) f) × (f ≢ ScriptFault.Failed)) }
     {
         let Some(found) = row(alloc, fields)? else {
             return Err(ScriptFault::Row(self.rows + 1));
@@ -121,15 +219,19 @@ impl Text {
     }
 
     /// The next row; `None` at the end.
-    pub fn next_row(&mut self, alloc: Global) -> Result<Option<ScriptRow>, ScriptFault>
-        ensures ok { IfOk result (λ o. IsNext (Some (rows_from self.old.0 self.old.1)) (Reading self.old.0 self.old.1) (Reading self.new.0 self.new.1) (Some (rows_from self.new.0 self.new.1)) (Ok o)) }
-        ensures err { IfErr result (λ f. IsFault (Some (rows_from self.old.0 self.old.1)) f × (f ≢ ScriptFault.Failed)) }
+    pub fn next_row<Q: Source>(
+        &mut self,
+        alloc: Global,
+        source: &mut Q,
+    ) -> Result<Option<ScriptRow>, ScriptFault>
+        ensures finds { (taken : List ℕ) × Reads self.old self.new (Q.left source.old) (Q.left source.new) taken × IsNear (self.old.pending ++ taken) × Finds self.old self.new taken result }
+        ensures over { self.old.ended ≡ true → (source.new ≡ source.old) × (result ≢ Err ScriptFault.Failed) }
+        ensures failed { result ≡ Err ScriptFault.Failed → Rose (Q.faults source.old) (Q.faults source.new) }
+        ensures later { Q.faults source.old ≤ Q.faults source.new }
     {
-        while !self.is_at_end() {
-            if let Some(fields) = self.next_record(alloc)? {
-                return Ok(Some(self.count(alloc, &fields)?));
-            }
-        }
-        Ok(None)
+        let Some(fields) = self.next_record(alloc, source)? else {
+            return Ok(None);
+        };
+        Ok(Some(self.count(alloc, &fields)?))
     }
 }

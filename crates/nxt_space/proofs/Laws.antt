@@ -14,5 +14,7 @@ pub mod NoBytes
 pub mod Words
 -- Numbers that stand in bytes one behind another.
 pub mod InBytes
+-- What stays where it is in the pool.
+pub mod Keeping
 -- Lists of numbers whose bytes are joined and cut.
 pub mod JoinedBytes

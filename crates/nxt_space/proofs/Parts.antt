@@ -10,6 +10,8 @@ pub mod Bounds
 pub mod Kept
 -- The variables with another value where an entry names one.
 pub mod Replaced
+-- A part that is stored and keeps its rows.
+pub mod KeptRows
 -- Lists of bytes.
 pub mod ByteLists
 -- Numbers that are read and stored where they stand.

@@ -27,10 +27,11 @@ pub record Variables : Type 0 where
   pub values : Value
   pub rows : ℕ
 
--- a space is seen as its variables, and as the pool that holds them
+-- a space is seen as its variables, as the pool that holds them, and as the rows of their lists in reading order
 pub record SpaceViews : Type 0 where
   pub vars : Variables
   pub pool : Pool
+  pub rows : List ℕ
 
 -- ---- what an entry names
 
@@ -106,10 +107,12 @@ Becomes old next (Err e) new = (pool_size < footprint_of next) × (e.0 ≡ footp
 abbrev pub base_of : Variables → ℕ
 base_of s = round4 s.static_size
 
--- the bytes of a pool with its table at this place read as the variables, in which these lists stand
-abbrev pub ReadsAsPool : Variables → ℕ → List ℕ → Type 0
-ReadsAsPool s table bytes =
-    (lists : List HeldList) × ReadsAs (record { entries = s.entries; bytes = bytes; table = table }) s.shapes s.values lists
+-- the bytes of a pool with its table at this place read as the variables, in which lists with these rows stand
+abbrev pub ReadsAsPool : Variables → List ℕ → ℕ → List ℕ → Type 0
+ReadsAsPool s rows table bytes =
+    (lists : List HeldList)
+    × ReadsAs (record { entries = s.entries; bytes = bytes; table = table }) s.shapes s.values lists
+    × (map (λ l. l.row) lists ≡ rows)
 
 -- the elements of each list are at least 1 and fewer than 2^16 bytes apart
 abbrev mutual

@@ -1,18 +1,20 @@
 // Variables in a heap, by the entries of their table.
 
-ghost use Rattle.std.specs.Prelude.{◌≡◌, ◌<◌, ◌≤◌, ◌+◌, ◌^◌, ℤ, List, length, map, sum_by, None, IfSome, IfOk, IsSome};
-ghost use Rattle.nxt_types.specs.Shapes.{Array, Number, tree, members};
+ghost use Rattle.std.specs.Prelude.{◌≡◌, ◌<◌, ◌≤◌, ◌+◌, ◌^◌, ℤ, List, length, map, sum_by, None, IfSome, IfOk, IsSome, true, false};
+ghost use Rattle.nxt_types.specs.Shapes.{Array, Number, tree, members, has_list, is_numbers};
 ghost use Rattle.nxt_types.specs.Names.{size, sizes, name_among};
 ghost use Rattle.nxt_types.specs.declared.kind.Kind.TheVariants.{Ubyte};
 ghost use Rattle.nxt_model.specs.Values.{lists_in, part as parts_value, number, elements};
 ghost use Rattle.nxt_model.specs.Footprint.{rows_for as rows_at_start};
 ghost use Rattle.nxt_types.specs.Pool.{pool_size};
 ghost use Rattle.nxt_heap.specs.Lists.{footprint, block_of};
+ghost use Rattle.nxt_heap.specs.Moves.{RowsStay, NoneMoves};
 ghost use Rattle.nxt_values.specs.Regions.{IsRegion, HoldsThere, value_there};
-ghost use Rattle.nxt_values.specs.Writes.{emptied, rows_there, AreOwn};
+ghost use Rattle.nxt_values.specs.Writes.{emptied, rows_there, AreOwn, has_inner_list, KeepsRows};
+ghost use Rattle.nxt_values.specs.Elements.{GetsNoLonger};
 ghost use Rattle.nxt_values.specs.Fills.{needs_for, FillsThere, RoomThere};
 ghost use Rattle.nxt_values.specs.Sizes.{IsCountable, size_in, size_of_filled};
-ghost use Rattle.nxt_space.specs.Inside.Kept.{values_of, shape_in, value_in, with_stored, bytes_with, bytes_after, started_as, Stand, Stores, CanStart, IsThere, IsVariable};
+ghost use Rattle.nxt_space.specs.Inside.Kept.{values_of, rows_of, shape_in, value_in, with_stored, bytes_with, bytes_after, started_as, Stand, Stores, CanStart, IsThere, IsVariable};
 ghost use Rattle.nxt_space.specs.Variables.{list_of_bytes, FitsPool};
 ghost use Rattle.nxt_values.specs.Parts.{positions, AreWithin};
 
@@ -193,7 +195,10 @@ pub fn replace(heap: &mut Heap, toc: &Toc, i: u16, from: &[i64])
     requires stand { Stand toc.now heap.old.lists }
     requires named { IsSome (name_among toc.now.shapes 0 i) }
     requires fits { bytes_with toc.now heap.old.lists (with_stored toc.now heap.old.lists i from.now) ≤ pool_size }
-    ensures { Stores toc.now heap.old.lists heap.new.lists (with_stored toc.now heap.old.lists i from.now) }
+    ensures stores { Stores toc.now heap.old.lists heap.new.lists (with_stored toc.now heap.old.lists i from.now) }
+    ensures rows { has_inner_list (shape_in toc.now i) ≡ false → rows_of toc.now heap.new.lists ≡ rows_of toc.now heap.old.lists }
+    ensures stays { has_list (shape_in toc.now i) ≡ false → RowsStay heap.old.pool heap.new.pool }
+    ensures shorter { is_numbers (shape_in toc.now i) ≡ true → length (elements (value_in toc.now heap.new.lists i)) ≤ length (elements (value_in toc.now heap.old.lists i)) → NoneMoves heap.old.pool heap.new.pool }
 {
     if let Some(shape) = toc.shape(i) {
         let at = Place {
@@ -218,6 +223,9 @@ fn put(heap: &mut Heap, entries: &[TocEntry], shape: &Shape, at: Place, from: &[
     requires fits { needs_for (emptied entries.now heap.old.lists (tree shape.now) at) (tree shape.now) from.now ≤ pool_size }
     ensures pool { footprint heap.new.lists ≤ pool_size }
     ensures filled { (rest : List ℤ) × FillsThere entries.now (emptied entries.now heap.old.lists (tree shape.now) at) heap.new.lists (tree shape.now) at from.now rest }
+    ensures rows { KeepsRows entries.now heap.old.lists heap.new.lists (tree shape.now) at }
+    ensures stays { has_list (tree shape.now) ≡ false → RowsStay heap.old.pool heap.new.pool }
+    ensures shorter { GetsNoLonger entries.now heap.old.lists (tree shape.now) at from.now → NoneMoves heap.old.pool heap.new.pool }
 {
     let stored = store(heap, entries, shape, at, from);
     prove!(stored.is_ok());

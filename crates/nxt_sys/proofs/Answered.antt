@@ -1,5 +1,5 @@
 -- How a call ends that stores members of its cluster.
-use Rattle.std.proofs.Common.{◌≡◌, ℕ, ◌+◌, ◌*◌, ◌≤◌, ◌<◌, ◌^◌, max, true, List, [], ◌∷◌, Option, Some, None, IsSome, Ok, Err, Result, length, take, refl, sym, ap, ap₂, ◌∙◌, subst, arith}
+use Rattle.std.proofs.Common.{◌≡◌, ℕ, ◌+◌, ◌*◌, ◌≤◌, ◌<◌, ◌^◌, max, true, List, [], ◌∷◌, Option, Some, None, IsSome, Ok, Err, Result, length, take, refl, sym, ap, ap₂, ◌∙◌, subst, arith, pos, ◌%◌}
 use Rattle.std.specs.Prelude.{ℤ, IsErrAnd}
 use Rattle.std.specs.List.{sum_by}
 use Rattle.nxt_types.specs.Calls.{cluster_fields, is_cluster_of}
@@ -20,13 +20,14 @@ use Rattle.nxt_space.specs.Variables.{Variables, SpaceViews, AreSound, name_of, 
 use Rattle.nxt_space.specs.declared.fault.OpFault.{OpFault}
 use Rattle.nxt_space.specs.declared.fault.OpFault.TheVariants.{PoolPassed, NoMemory}
 use Rattle.nxt_space.proofs.Laws.PartSizes.{lists_with_part, bytes_with_part, part_of_shape, with_part_of_shape}
+use Rattle.nxt_space.proofs.Laws.Words.{stored_word}
 use Rattle.nxt_operands.specs.Operands.{Done, place_of}
 use Rattle.nxt_operands.proofs.Laws.OneStored.{one_placed}
 use Rattle.nxt_operands.proofs.Laws.Refusals.{passed_on}
 use Rattle.nxt_texts.specs.Texts.{StoresBytes}
 use Rattle.nxt_sys.specs.Answers.{with_member, with_members}
 use Rattle.nxt_sys.specs.Fields.{HasCluster, HasField, IsMember, width}
-use Rattle.nxt_sys.proofs.Named.{entry, member_put, member_shape, member_some}
+use Rattle.nxt_sys.proofs.Named.{entry, first_field, member_put, member_shape, member_some}
 use Rattle.nxt_sys.proofs.Parts.{members_apart}
 use Rattle.nxt_sys.proofs.StoredTexts.{text_stored}
 
@@ -188,3 +189,12 @@ message_refused old new cluster i z bs fault r h m few e stores =
     (λ w. Does {T = Unit {0}} Done w old r new)
     (sym (both_members s cluster z bs))
     (passed_on Done Done (putting s cluster 0 (Num z) vars) old new fault r e refused)
+
+-- ---- a word for a number
+
+-- the first member takes a number by its word
+pub word_told : (s : Variables) (call : Call) (cluster n : ℕ) → HasCluster s call cluster → stored (field_shape 0 (shape_of s cluster)) (Num (pos (n % 4294967296))) ≡ stored (field_shape 0 (shape_of s cluster)) (Num (pos n))
+word_told s call cluster n has =
+    let i = cluster + (1 + sum_by width (take 0 (cluster_fields call))) in
+    let m = entry s call cluster 0 i a_number (record { group = has; field = first_field call }) refl in
+    stored_word (field_shape 0 (shape_of s cluster)) (pos n) (ap is_number (sym (member_shape s cluster 0 i a_number m)) ∙ m.shape)

@@ -7,3 +7,4 @@ pub mod StoredTexts
 pub mod Answered
 pub mod Calling
 pub mod Mailboxes
+pub mod Keeping

@@ -1,3 +1,4 @@
 pub mod Fields
 pub mod Answers
 pub mod Calls
+pub mod Keeping

@@ -1,10 +1,12 @@
 // What calls store in the members of their clusters.
 
-ghost use Rattle.std.specs.Prelude.{◌≡◌, ◌∷◌, ◌<◌, ◌^◌, [], length, Ok};
+ghost use Rattle.std.specs.Prelude.{◌≡◌, ◌∷◌, ◌<◌, ◌^◌, [], length, Ok, Some};
 ghost use Rattle.nxt_types.specs.declared.calls.Call.TheVariants as calls;
 ghost use Rattle.nxt_model.specs.Values.{Num, byte_list};
+ghost use Rattle.nxt_space.specs.Keeping.{TableStays};
 ghost use Rattle.nxt_space.specs.Outcomes.{Does};
 ghost use Rattle.nxt_operands.specs.Operands.{Done};
+ghost use Rattle.nxt_sys.specs.Keeping.{LeavesAfter};
 ghost use Rattle.nxt_sys.specs.Answers.{with_members};
 ghost use Rattle.nxt_sys.specs.Fields.{HasCluster};
 
@@ -17,7 +19,8 @@ use std::alloc::Global;
 /// Stores the first member of a call's cluster, which tells how the call went. It takes no memory.
 pub fn answer(space: &mut Space, call: Call, cluster: u16, outcome: i64)
     requires { HasCluster space.old.vars call cluster }
-    ensures { Does Done (with_members space.old.vars cluster ((0, Num outcome) ∷ [])) space.old (Ok tt) space.new }
+    ensures does { Does Done (with_members space.old.vars cluster ((0, Num outcome) ∷ [])) space.old (Ok tt) space.new }
+    ensures stays { TableStays space.old space.new }
 {
     set(space, call, cluster, 0, outcome);
 }
@@ -32,7 +35,8 @@ pub fn answer_message(
 ) -> Result<(), OpFault>
     requires cluster { HasCluster space.old.vars calls.ReadMessage cluster }
     requires few { length message.now < 2 ^ 32 }
-    ensures { Does Done (with_members space.old.vars cluster ((0, Num outcome) ∷ (3, byte_list message.now) ∷ [])) space.old result space.new }
+    ensures does { Does Done (with_members space.old.vars cluster ((0, Num outcome) ∷ (3, byte_list message.now) ∷ [])) space.old result space.new }
+    ensures leaves { LeavesAfter (Some calls.ReadMessage) cluster space.old space.new }
 {
     let entry = entry_of(Call::ReadMessage, cluster, 3);
     store_bytes(alloc, space, entry, message)?;

@@ -1,5 +1,6 @@
 // The calls that read buttons and random words.
 
+ghost use Rattle.nxt_space.specs.Keeping.{TableStays};
 ghost use Rattle.std.specs.Prelude.{◌≡◌, Ok};
 ghost use Rattle.nxt_types.specs.Calls.{call_number};
 ghost use Rattle.nxt_types.specs.declared.calls.Call.TheVariants as calls;
@@ -21,7 +22,8 @@ const NO_BUTTON: i64 = -16;
 /// Specification, "NXTReadButton").
 pub fn read_button(cluster: u16, space: &mut Space, io: &mut Io)
     requires { HasCluster space.old.vars calls.ReadButton cluster }
-    ensures { (t : Moments) (out : Roomy) → Calls (call_number calls.ReadButton) cluster t space.old io.old out (Ok tt) space.new io.new out }
+    ensures calls { (t : Moments) (out : Roomy) → Calls (call_number calls.ReadButton) cluster t space.old io.old out (Ok tt) space.new io.new out }
+    ensures stays { TableStays space.old space.new }
 {
     let index = word(space, Call::ReadButton, cluster, 1);
     let reset = word(space, Call::ReadButton, cluster, 4) != 0;
@@ -38,7 +40,8 @@ pub fn read_button(cluster: u16, space: &mut Space, io: &mut Io)
 /// Tells the oldest random word, or 0 where there is none (Executable File Specification, "NXTRandomNumber").
 pub fn random_number(cluster: u16, space: &mut Space, io: &mut Io)
     requires { HasCluster space.old.vars calls.RandomNumber cluster }
-    ensures { (t : Moments) (out : Roomy) → Calls (call_number calls.RandomNumber) cluster t space.old io.old out (Ok tt) space.new io.new out }
+    ensures calls { (t : Moments) (out : Roomy) → Calls (call_number calls.RandomNumber) cluster t space.old io.old out (Ok tt) space.new io.new out }
+    ensures stays { TableStays space.old space.new }
 {
     let word = io.random();
     answer(space, Call::RandomNumber, cluster, i64::from(word));

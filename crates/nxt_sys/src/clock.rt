@@ -1,5 +1,6 @@
 // The clock, and the calls that read it.
 
+ghost use Rattle.nxt_space.specs.Keeping.{TableStays};
 ghost use Rattle.std.specs.Prelude.{◌≡◌, Ok};
 ghost use Rattle.nxt_types.specs.Calls.{call_number};
 ghost use Rattle.nxt_types.specs.declared.calls.Call.TheVariants as calls;
@@ -29,7 +30,8 @@ pub struct Clock {
 /// Tells the moment of the program's start (Executable File Specification, "NXTGetStartTick").
 pub fn start_tick(cluster: u16, space: &mut Space, clock: Clock)
     requires { HasCluster space.old.vars calls.StartTick cluster }
-    ensures { (d : Devices) (out : Roomy) → Calls (call_number calls.StartTick) cluster (clock_of clock) space.old d out (Ok tt) space.new d out }
+    ensures calls { (d : Devices) (out : Roomy) → Calls (call_number calls.StartTick) cluster (clock_of clock) space.old d out (Ok tt) space.new d out }
+    ensures stays { TableStays space.old space.new }
 {
     answer(
         space,
@@ -42,7 +44,8 @@ pub fn start_tick(cluster: u16, space: &mut Space, clock: Clock)
 /// Keeps the brick on, and tells for how long (Executable File Specification, "NXTKeepAlive").
 pub fn keep_alive(cluster: u16, space: &mut Space)
     requires { HasCluster space.old.vars calls.KeepAlive cluster }
-    ensures { (d : Devices) (t : Moments) (out : Roomy) → Calls (call_number calls.KeepAlive) cluster t space.old d out (Ok tt) space.new d out }
+    ensures calls { (d : Devices) (t : Moments) (out : Roomy) → Calls (call_number calls.KeepAlive) cluster t space.old d out (Ok tt) space.new d out }
+    ensures stays { TableStays space.old space.new }
 {
     answer(space, Call::KeepAlive, cluster, SLEEP_AFTER);
 }

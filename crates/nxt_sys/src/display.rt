@@ -6,6 +6,7 @@ ghost use Rattle.nxt_types.specs.Calls.{call_number};
 ghost use Rattle.nxt_types.specs.declared.calls.Call.TheVariants as calls;
 ghost use Rattle.nxt_model.specs.Devices.{Devices};
 ghost use Rattle.nxt_model.specs.SystemCalls.{Clock, field_text, shown as shown_of};
+ghost use Rattle.nxt_space.specs.Keeping.{TableStays};
 ghost use Rattle.nxt_space.specs.Variables.{value_of};
 ghost use Rattle.nxt_sys.specs.Calls.{Calls};
 ghost use Rattle.nxt_sys.specs.Fields.{HasCluster};
@@ -29,7 +30,8 @@ pub fn draw_text(
     out: &mut Lines,
 ) -> Result<(), OpFault>
     requires { HasCluster space.old.vars calls.DrawText cluster }
-    ensures { (d : Devices) (t : Clock) → Calls (call_number calls.DrawText) cluster t space.old d out.old result space.new d out.new }
+    ensures calls { (d : Devices) (t : Clock) → Calls (call_number calls.DrawText) cluster t space.old d out.old result space.new d out.new }
+    ensures stays { TableStays space.old space.new }
 {
     let x = x_at(space, Call::DrawText, cluster, 1);
     let y = y_at(space, Call::DrawText, cluster, 1);
@@ -75,7 +77,8 @@ fn zero_at(text: &[u8]) -> usize
 /// Draws a point (Executable File Specification, "NXTDrawPoint").
 pub fn draw_point(cluster: u16, space: &mut Space, out: &mut Lines) -> Result<(), OpFault>
     requires { HasCluster space.old.vars calls.DrawPoint cluster }
-    ensures { (d : Devices) (t : Clock) → Calls (call_number calls.DrawPoint) cluster t space.old d out.old result space.new d out.new }
+    ensures calls { (d : Devices) (t : Clock) → Calls (call_number calls.DrawPoint) cluster t space.old d out.old result space.new d out.new }
+    ensures stays { TableStays space.old space.new }
 {
     let x = x_at(space, Call::DrawPoint, cluster, 1);
     let y = y_at(space, Call::DrawPoint, cluster, 1);
@@ -88,7 +91,8 @@ pub fn draw_point(cluster: u16, space: &mut Space, out: &mut Lines) -> Result<()
 /// Draws a line between two places (Executable File Specification, "NXTDrawLine").
 pub fn draw_line(cluster: u16, space: &mut Space, out: &mut Lines) -> Result<(), OpFault>
     requires { HasCluster space.old.vars calls.DrawLine cluster }
-    ensures { (d : Devices) (t : Clock) → Calls (call_number calls.DrawLine) cluster t space.old d out.old result space.new d out.new }
+    ensures calls { (d : Devices) (t : Clock) → Calls (call_number calls.DrawLine) cluster t space.old d out.old result space.new d out.new }
+    ensures stays { TableStays space.old space.new }
 {
     let x = x_at(space, Call::DrawLine, cluster, 1);
     let y = y_at(space, Call::DrawLine, cluster, 1);
@@ -103,7 +107,8 @@ pub fn draw_line(cluster: u16, space: &mut Space, out: &mut Lines) -> Result<(),
 /// Draws a circle around a place, with a radius in pixels (Executable File Specification, "NXTDrawCircle").
 pub fn draw_circle(cluster: u16, space: &mut Space, out: &mut Lines) -> Result<(), OpFault>
     requires { HasCluster space.old.vars calls.DrawCircle cluster }
-    ensures { (d : Devices) (t : Clock) → Calls (call_number calls.DrawCircle) cluster t space.old d out.old result space.new d out.new }
+    ensures calls { (d : Devices) (t : Clock) → Calls (call_number calls.DrawCircle) cluster t space.old d out.old result space.new d out.new }
+    ensures stays { TableStays space.old space.new }
 {
     let x = x_at(space, Call::DrawCircle, cluster, 1);
     let y = y_at(space, Call::DrawCircle, cluster, 1);
@@ -118,7 +123,8 @@ pub fn draw_circle(cluster: u16, space: &mut Space, out: &mut Lines) -> Result<(
 /// "NXTDrawRect").
 pub fn draw_rect(cluster: u16, space: &mut Space, out: &mut Lines) -> Result<(), OpFault>
     requires { HasCluster space.old.vars calls.DrawRect cluster }
-    ensures { (d : Devices) (t : Clock) → Calls (call_number calls.DrawRect) cluster t space.old d out.old result space.new d out.new }
+    ensures calls { (d : Devices) (t : Clock) → Calls (call_number calls.DrawRect) cluster t space.old d out.old result space.new d out.new }
+    ensures stays { TableStays space.old space.new }
 {
     let x = x_at(space, Call::DrawRect, cluster, 1);
     let y = y_at(space, Call::DrawRect, cluster, 1);
@@ -133,7 +139,8 @@ pub fn draw_rect(cluster: u16, space: &mut Space, out: &mut Lines) -> Result<(),
 /// Sets the screen's mode (Executable File Specification, "NXTSetScreenMode").
 pub fn set_screen(cluster: u16, space: &mut Space, out: &mut Lines) -> Result<(), OpFault>
     requires { HasCluster space.old.vars calls.SetScreen cluster }
-    ensures { (d : Devices) (t : Clock) → Calls (call_number calls.SetScreen) cluster t space.old d out.old result space.new d out.new }
+    ensures calls { (d : Devices) (t : Clock) → Calls (call_number calls.SetScreen) cluster t space.old d out.old result space.new d out.new }
+    ensures stays { TableStays space.old space.new }
 {
     let mode = number(space, Call::SetScreen, cluster, 1);
     out.push(Line::Screen(mode))?;

@@ -1,13 +1,15 @@
 // The members of a call's cluster.
 
-ghost use Rattle.std.specs.Prelude.{◌≡◌, ◌≤◌, ℕ, length, IfOk};
+ghost use Rattle.std.specs.Prelude.{◌≡◌, ◌≤◌, ℕ, length, IfOk, true};
 ghost use Rattle.std.specs.List.{sum_by};
 ghost use Rattle.nxt_types.specs.Pool.{pool_size};
+ghost use Rattle.nxt_types.specs.Shapes.{is_numbers};
 ghost use Rattle.nxt_types.specs.declared.calls.Field.{Field as a_field};
 ghost use Rattle.nxt_types.specs.declared.calls.Field.TheVariants.{Number as a_number, Text as a_text, Place as a_place};
 ghost use Rattle.nxt_model.specs.SystemCalls.{field_number, field_text, field_word, x_of, y_of};
 ghost use Rattle.nxt_model.specs.Values.{Num};
-ghost use Rattle.nxt_space.specs.Variables.{Variables, value_of};
+ghost use Rattle.nxt_space.specs.Keeping.{TableStays};
+ghost use Rattle.nxt_space.specs.Variables.{Variables, shape_of, value_of};
 ghost use Rattle.nxt_texts.specs.Texts.{bytes_in};
 ghost use Rattle.nxt_sys.specs.Answers.{with_member};
 ghost use Rattle.nxt_sys.specs.Fields.{HasCluster, HasField, IsMember, width as width_of};
@@ -105,6 +107,8 @@ pub fn set(space: &mut Space, call: Call, cluster: u16, k: usize, x: i64)
     requires { HasField space.old.vars call cluster k a_number }
     ensures member { space.new.vars ≡ with_member space.old.vars cluster k (Num x) }
     ensures cluster { HasCluster space.new.vars call cluster }
+    ensures stays { TableStays space.old space.new }
+    ensures lists { (i : ℕ) → is_numbers (shape_of space.old.vars i) ≡ true → value_of space.new.vars i ≡ value_of space.old.vars i }
 {
     space.set(entry_of(call, cluster, k), x);
     space.is_sound();

@@ -9,7 +9,9 @@ ghost use Rattle.nxt_model.specs.LineList.{Roomy};
 ghost use Rattle.nxt_model.specs.Means.Text.{body as body_of, ended};
 ghost use Rattle.nxt_model.specs.SystemCalls.{Clock as Moments, answers, field_text, field_word, write_message as written};
 ghost use Rattle.nxt_model.specs.Values.{Num};
+ghost use Rattle.nxt_space.specs.Keeping.{TableStays};
 ghost use Rattle.nxt_space.specs.Variables.{value_of};
+ghost use Rattle.nxt_sys.specs.Keeping.{LeavesAfter};
 ghost use Rattle.nxt_sys.specs.Calls.{Calls};
 ghost use Rattle.nxt_sys.specs.Fields.{HasCluster};
 
@@ -43,7 +45,8 @@ pub fn write_message(
     io: &mut Io,
 ) -> Result<(), OpFault>
     requires { HasCluster space.old.vars calls.WriteMessage cluster }
-    ensures { (t : Moments) (out : Roomy) → Calls (call_number calls.WriteMessage) cluster t space.old io.old out result space.new io.new out }
+    ensures calls { (t : Moments) (out : Roomy) → Calls (call_number calls.WriteMessage) cluster t space.old io.old out result space.new io.new out }
+    ensures stays { TableStays space.old space.new }
 {
     let outcome = post(alloc, cluster, space, io)?;
     answer(space, Call::WriteMessage, cluster, outcome);
@@ -90,7 +93,8 @@ pub fn read_message(
     io: &mut Io,
 ) -> Result<(), OpFault>
     requires { HasCluster space.old.vars calls.ReadMessage cluster }
-    ensures { (t : Moments) (out : Roomy) → Calls (call_number calls.ReadMessage) cluster t space.old io.old out result space.new io.new out }
+    ensures calls { (t : Moments) (out : Roomy) → Calls (call_number calls.ReadMessage) cluster t space.old io.old out result space.new io.new out }
+    ensures leaves { LeavesAfter (Some calls.ReadMessage) cluster space.old space.new }
 {
     let mailbox = word(space, Call::ReadMessage, cluster, 1);
     if mailbox > LAST_MAILBOX {

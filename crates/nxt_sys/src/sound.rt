@@ -1,5 +1,6 @@
 // The calls of sound.
 
+ghost use Rattle.nxt_space.specs.Keeping.{TableStays};
 ghost use Rattle.std.specs.Prelude.{◌≡◌, Ok};
 ghost use Rattle.nxt_types.specs.Calls.{call_number};
 ghost use Rattle.nxt_types.specs.declared.calls.Call.TheVariants as calls;
@@ -25,7 +26,8 @@ pub fn play_tone(
     out: &mut Lines,
 ) -> Result<(), OpFault>
     requires { HasCluster space.old.vars calls.PlayTone cluster }
-    ensures { Calls (call_number calls.PlayTone) cluster (clock_of clock) space.old io.old out.old result space.new io.new out.new }
+    ensures calls { Calls (call_number calls.PlayTone) cluster (clock_of clock) space.old io.old out.old result space.new io.new out.new }
+    ensures stays { TableStays space.old space.new }
 {
     let frequency = word(space, Call::PlayTone, cluster, 1);
     let duration = word(space, Call::PlayTone, cluster, 2);
@@ -39,7 +41,8 @@ pub fn play_tone(
 /// Tells the state and the flags of sound (Executable File Specification, "NXTSoundGetState").
 pub fn get_sound(cluster: u16, space: &mut Space, io: &Io)
     requires { HasCluster space.old.vars calls.GetSound cluster }
-    ensures { (t : Moments) (out : Roomy) → Calls (call_number calls.GetSound) cluster t space.old io.now out (Ok tt) space.new io.now out }
+    ensures calls { (t : Moments) (out : Roomy) → Calls (call_number calls.GetSound) cluster t space.old io.now out (Ok tt) space.new io.now out }
+    ensures stays { TableStays space.old space.new }
 {
     let (state, flags) = io.sound();
     set(space, Call::GetSound, cluster, 0, i64::from(state));
@@ -55,7 +58,8 @@ pub fn set_sound(
     out: &mut Lines,
 ) -> Result<(), OpFault>
     requires { HasCluster space.old.vars calls.SetSound cluster }
-    ensures { (t : Moments) → Calls (call_number calls.SetSound) cluster t space.old io.old out.old result space.new io.new out.new }
+    ensures calls { (t : Moments) → Calls (call_number calls.SetSound) cluster t space.old io.old out.old result space.new io.new out.new }
+    ensures stays { TableStays space.old space.new }
 {
     let state = word(space, Call::SetSound, cluster, 1) % 0x100;
     let flags = word(space, Call::SetSound, cluster, 2) % 0x100;

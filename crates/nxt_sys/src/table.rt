@@ -1,5 +1,7 @@
 // The table of the calls.
 
+ghost use Rattle.nxt_types.specs.Calls.{call_of};
+ghost use Rattle.nxt_sys.specs.Keeping.{LeavesAfter};
 ghost use Rattle.nxt_sys.specs.Calls.{CanCall, Calls, clock_of};
 
 use crate::buttons::{random_number, read_button};
@@ -25,7 +27,8 @@ pub fn syscall(
     out: &mut Lines,
 ) -> Result<(), OpFault>
     requires { CanCall space.old.vars number cluster }
-    ensures { Calls number cluster (clock_of clock) space.old io.old out.old result space.new io.new out.new }
+    ensures calls { Calls number cluster (clock_of clock) space.old io.old out.old result space.new io.new out.new }
+    ensures leaves { LeavesAfter (call_of number) cluster space.old space.new }
 {
     let Some(call) = Call::from_number(number) else {
         return Ok(());

@@ -1,11 +1,13 @@
 -- A value that is stored where another one was stored before.
-use Rattle.std.proofs.Common.{◌≡◌, ℕ, zero, suc, List, [], ◌∷◌, set, get_or, pos, length, Option, Some, None, inl, inr, refl, sym, ap, ◌∙◌}
+use Rattle.std.proofs.Common.{◌≡◌, ℕ, zero, suc, List, [], ◌∷◌, set, get_or, pos, length, Option, Some, None, inl, inr, refl, sym, ap, ◌∙◌, ◌<◌, ◌≤◌, length-set}
 use Rattle.std.proofs.lemmas.Bool.{cases_lt}
 use Rattle.std.proofs.lemmas.List.{get_or-set_same, get_or_past, set_past}
 use Rattle.nxt_types.specs.Names.{Name}
-use Rattle.nxt_model.specs.Values.{Value, Values, Num, ListOf, GroupOf, items, values, list_of, group_of, part, with_part}
+use Rattle.nxt_types.specs.Shapes.{Number}
+use Rattle.nxt_model.specs.Values.{Value, Values, Num, ListOf, GroupOf, items, elements, stored, values, list_of, group_of, part, with_part}
 use Rattle.nxt_model.proofs.Laws.Values.{items-values}
-use Rattle.nxt_space.specs.Variables.{Variables, name_of, value_of, value_by, with_by, with_value, with_values}
+use Rattle.nxt_space.specs.declared.spots.ListSpot.{ListSpot}
+use Rattle.nxt_space.specs.Variables.{Variables, SpaceViews, name_of, value_of, value_by, with_by, with_value, with_values}
 
 abbrev none_there : Value
 none_there = Num (pos 0)
@@ -78,3 +80,16 @@ there_by (Some n) vs w vars e = list_over n.path vs w vars e
 -- what is stored where a list was
 pub value_there : (s : Variables) (i : ℕ) (vs : Values) (w : Value) → value_of s i ≡ ListOf vs → value_of (with_values (with_value s i w) s) i ≡ w
 value_there s i vs w e = there_by (name_of s i) vs w s.values e
+
+-- a list in which an element is stored is as long as before
+pub element_long : (mid new : SpaceViews) (i k w : ℕ) (list : ListSpot) (vs : Values) → value_of mid.vars i ≡ ListOf vs → (k < length (elements (value_of mid.vars i)) → new.vars ≡ record mid.vars { values = with_value mid.vars i (list_of (set (elements (value_of mid.vars i)) k (stored (Number list.kind) (Num (pos w))))) })
+    → (length (elements (value_of mid.vars i)) ≤ k → new ≡ mid) → length (elements (value_of new.vars i)) ≡ length (elements (value_of mid.vars i))
+element_long mid new i k w list vs is within past =
+    let xs = elements (value_of mid.vars i) in
+    let u = list_of (set xs k (stored (Number list.kind) (Num (pos w)))) in
+    elim (cases_lt k (length xs)) [
+      | inl less ↦
+          let now : value_of new.vars i ≡ u = ap (λ v. value_of v i) (within less) ∙ value_there mid.vars i vs u is in
+          ap (λ v. length (elements v)) now ∙ ap length (items-values (set xs k (stored (Number list.kind) (Num (pos w))))) ∙ length-set xs k (stored (Number list.kind) (Num (pos w)))
+      | inr more ↦ ap (λ v. length (elements (value_of v.vars i))) (past more)
+    ]

@@ -2,8 +2,8 @@
 use Rattle.std.proofs.Common.{length, IsSome, Result, le-leb, ◌≡◌, ℕ, ◌+◌, ◌*◌, ◌≤◌, ◌<◌, ◌==◌, max, Bool, true, false, [], ◌∷◌, ◌++◌, List, Option, Some, None, Ok, Err, refl, sym, ap, ap₂, ◌∙◌, subst, arith}
 use Rattle.std.specs.Prelude.{ℤ, pos, if◌then◌else◌, IsErrAnd}
 use Rattle.std.proofs.lemmas.Bool.{lt-leb}
-use Rattle.nxt_types.specs.Names.{Name}
-use Rattle.nxt_types.specs.Shapes.{convertible, has_list, Shape, Number, Cluster, is_number}
+use Rattle.nxt_types.specs.Names.{Name, name_among}
+use Rattle.nxt_types.specs.Shapes.{convertible, has_list, Shape, Number, Cluster, is_number, is_numbers}
 use Rattle.nxt_model.specs.Devices.{Devices}
 use Rattle.nxt_model.specs.Footprint.{list_bytes}
 use Rattle.nxt_types.specs.Pool.{round4, pool_size}
@@ -19,6 +19,7 @@ use Rattle.nxt_space.specs.declared.fault.OpFault.{OpFault}
 use Rattle.nxt_space.specs.declared.fault.OpFault.TheVariants.{PoolPassed, NoMemory}
 use Rattle.nxt_space.proofs.Laws.PartSizes.{lists_with_part, bytes_with_part, part_of_shape, with_part_of_shape}
 use Rattle.nxt_operands.specs.Operands.{Done, given, given_or_left, place_of, place_or_none, values_stored}
+use Rattle.nxt_operands.proofs.Laws.Beside.{list_beside}
 use Rattle.nxt_operands.proofs.Laws.Sizes.{IsSoundPart, sound_part}
 use Rattle.nxt_operands.proofs.Laws.Refusals.{passed_on}
 use Rattle.nxt_operands.proofs.Laws.Stored.{IsStorable, part_storable}
@@ -179,3 +180,18 @@ unflatten_short s new dest error source i zs result d short e h =
     (λ b. Does {T = Unit {0}} Done (values_stored s.vars (place_of s.vars dest ∷ place_or_none s.vars error ∷ []) (if b then told (pos 0) v else told (pos 1) (value_of s.vars i))) s result new)
     (sym (lt-leb (packed_size (shape_of s.vars i)) (length (text_at s.vars source)) short))
     (told_value s new dest error (value_of s.vars i) zs (pos 1) result d e h)
+
+-- ---- lists beside the number
+
+beside_if : (left_out : Bool) (t : Variables) (dest i : ℕ) (z : ℤ) → (left_out ≡ false → is_number (shape_of t i) ≡ true) → is_numbers (shape_of t dest) ≡ true → value_of (number_if left_out t i z) dest ≡ value_of t dest
+beside_if true t dest i z number numbers = refl
+beside_if false t dest i z number numbers = list_beside t dest i (stored (shape_of t i) (Num z)) numbers (number refl)
+
+-- a list of numbers stays as it is
+pub told_beside : (s t new : Variables) (dest i : ℕ) (vars : Value) (z : ℤ) → t ≡ with_values vars s → ((i == 0xFFFF) ≡ false → is_number (shape_of s i) ≡ true) → new ≡ with_number t i z → is_numbers (shape_of s dest) ≡ true → value_of new dest ≡ value_of t dest
+told_beside s t new dest i vars z is number told numbers =
+    let shapes : t.shapes ≡ s.shapes = ap (λ (v : Variables). v.shapes) is in
+    ap (λ v. value_of v dest) told
+    ∙ beside_if (i == 0xFFFF) t dest i z
+    (λ some. ap (λ ss. is_number (shape_by (name_among ss 0 i))) shapes ∙ number some)
+    (ap (λ ss. is_numbers (shape_by (name_among ss 0 dest))) shapes ∙ numbers)

@@ -10,6 +10,7 @@ ghost use Rattle.nxt_types.specs.Shapes.{is_number};
 ghost use Rattle.nxt_model.specs.Devices.{Devices};
 ghost use Rattle.nxt_model.specs.Means.Strings.{number_to_string as to_string_means, string_to_number as to_number_means};
 ghost use Rattle.nxt_model.specs.Means.Text.{digits_value, is_digit, sign_at as sign_of, signed_number};
+ghost use Rattle.nxt_space.specs.Keeping.{TableStays, Leaves};
 ghost use Rattle.nxt_space.specs.Variables.{AreSound, name_of, shape_of};
 ghost use Rattle.nxt_space.specs.Outcomes.{Does};
 ghost use Rattle.nxt_operands.specs.Operands.{Done, given, given_or_left, place_of, place_or_none, values_stored};
@@ -43,7 +44,8 @@ pub fn number_to_string(
     requires number { IsSome (name_of space.old.vars number) }
     requires text { is_text (shape_of space.old.vars dest) ≡ true }
     requires is_number { is_number (shape_of space.old.vars number) ≡ true }
-    ensures { (d : Devices) → Does Done (values_stored space.old.vars (place_of space.old.vars dest ∷ []) (to_string_means d (given space.old.vars dest) (given space.old.vars number))) space.old result space.new }
+    ensures does { (d : Devices) → Does Done (values_stored space.old.vars (place_of space.old.vars dest ∷ []) (to_string_means d (given space.old.vars dest) (given space.old.vars number))) space.old result space.new }
+    ensures leaves { Leaves (dest ∷ []) space.old space.new }
 {
     let digits = decimal(alloc, space.get(number))?;
     store_text(alloc, space, dest, digits.as_bytes())
@@ -73,7 +75,8 @@ pub fn string_to_number(
     requires number { is_number (shape_of space.old.vars dest) ≡ true }
     requires past { (past == 0xFFFF) ≡ false → is_number (shape_of space.old.vars past) ≡ true }
     requires source_text { is_text (shape_of space.old.vars source) ≡ true }
-    ensures { (d : Devices) → Does Done (values_stored space.old.vars (place_of space.old.vars dest ∷ place_or_none space.old.vars past ∷ []) (to_number_means d (given space.old.vars dest) (given_or_left space.old.vars past) (given space.old.vars source) (given_or_left space.old.vars offset) (given_or_left space.old.vars default))) space.old result space.new }
+    ensures does { (d : Devices) → Does Done (values_stored space.old.vars (place_of space.old.vars dest ∷ place_or_none space.old.vars past ∷ []) (to_number_means d (given space.old.vars dest) (given_or_left space.old.vars past) (given space.old.vars source) (given_or_left space.old.vars offset) (given_or_left space.old.vars default))) space.old result space.new }
+    ensures stays { TableStays space.old space.new }
 {
     let at = word_or(space, offset, 0);
     let default = Numeral {

@@ -9,6 +9,7 @@ ghost use Rattle.nxt_model.specs.Means.Text.{packed, packed_size, unpacked};
 ghost use Rattle.nxt_model.specs.Values.{Num, flat as flat_form, stored};
 ghost use Rattle.nxt_values.specs.Fills.{filled, first_of};
 ghost use Rattle.nxt_values.specs.Sizes.{IsCountable, size_of_filled};
+ghost use Rattle.nxt_space.specs.Keeping.{TableStays, Leaves};
 ghost use Rattle.nxt_space.specs.Variables.{AreSound, name_of, shape_of, value_of, with_value};
 ghost use Rattle.nxt_space.specs.Outcomes.{Does};
 ghost use Rattle.nxt_space.specs.Spots.{IsSpot};
@@ -38,7 +39,8 @@ pub fn flatten(alloc: Global, space: &mut Space, dest: u16, value: u16) -> Resul
     requires value { IsSome (name_of space.old.vars value) }
     requires text { is_text (shape_of space.old.vars dest) ≡ true }
     requires no_list { has_list (shape_of space.old.vars value) ≡ false }
-    ensures { (d : Devices) → Does Done (values_stored space.old.vars (place_of space.old.vars dest ∷ []) (flatten_means d (given space.old.vars dest) (given space.old.vars value))) space.old result space.new }
+    ensures does { (d : Devices) → Does Done (values_stored space.old.vars (place_of space.old.vars dest ∷ []) (flatten_means d (given space.old.vars dest) (given space.old.vars value))) space.old result space.new }
+    ensures leaves { Leaves (dest ∷ []) space.old space.new }
 {
     if let Some(number) = space.spot(value) {
         let word = space.word(number).to_le_bytes();
@@ -135,7 +137,8 @@ pub fn unflatten(
     requires source_text { is_text (shape_of space.old.vars source) ≡ true }
     requires no_list { has_list (shape_of space.old.vars kind_of) ≡ false }
     requires fit { convertible (shape_of space.old.vars dest) (shape_of space.old.vars kind_of) ≡ true }
-    ensures { (d : Devices) → Does Done (values_stored space.old.vars (place_of space.old.vars dest ∷ place_or_none space.old.vars error ∷ []) (unflatten_means d (given space.old.vars dest) (given_or_left space.old.vars error) (given space.old.vars source) (given space.old.vars kind_of))) space.old result space.new }
+    ensures does { (d : Devices) → Does Done (values_stored space.old.vars (place_of space.old.vars dest ∷ place_or_none space.old.vars error ∷ []) (unflatten_means d (given space.old.vars dest) (given_or_left space.old.vars error) (given space.old.vars source) (given space.old.vars kind_of))) space.old result space.new }
+    ensures leaves { Leaves (dest ∷ []) space.old space.new }
 {
     if let Some(other) = space.spot(kind_of) {
         return unflatten_number(alloc, space, dest, error, source, other);
@@ -165,7 +168,8 @@ fn unflatten_number(
     requires dest { is_number (shape_of space.old.vars dest) ≡ true }
     requires error { (error == 0xFFFF) ≡ false → is_number (shape_of space.old.vars error) ≡ true }
     requires text { is_text (shape_of space.old.vars source) ≡ true }
-    ensures { (i : ℕ) → IsSpot space.old.vars i other → (d : Devices) → Does Done (values_stored space.old.vars (place_of space.old.vars dest ∷ place_or_none space.old.vars error ∷ []) (unflatten_means d (given space.old.vars dest) (given_or_left space.old.vars error) (given space.old.vars source) (given space.old.vars i))) space.old result space.new }
+    ensures does { (i : ℕ) → IsSpot space.old.vars i other → (d : Devices) → Does Done (values_stored space.old.vars (place_of space.old.vars dest ∷ place_or_none space.old.vars error ∷ []) (unflatten_means d (given space.old.vars dest) (given_or_left space.old.vars error) (given space.old.vars source) (given space.old.vars i))) space.old result space.new }
+    ensures stays { TableStays space.old space.new }
 {
     let found = word_in(alloc, space, source, other.kind())?;
     let Some(word) = found else {
@@ -180,7 +184,8 @@ fn unflatten_number(
 fn set_and_tell(space: &mut Space, dest: u16, number: i64, error: u16, code: i64)
     requires dest { is_number (shape_of space.old.vars dest) ≡ true }
     requires error { (error == 0xFFFF) ≡ false → is_number (shape_of space.old.vars error) ≡ true }
-    ensures { space.new.vars ≡ with_number (record space.old.vars { values = with_value space.old.vars dest (stored (shape_of space.old.vars dest) (Num number)) }) error code }
+    ensures value { space.new.vars ≡ with_number (record space.old.vars { values = with_value space.old.vars dest (stored (shape_of space.old.vars dest) (Num number)) }) error code }
+    ensures stays { TableStays space.old space.new }
 {
     space.set(dest, number);
     set_unless_left_out(space, error, code);
@@ -286,7 +291,8 @@ fn store_and_tell(
     requires dest { IsSome (name_of space.old.vars dest) }
     requires error { (error == 0xFFFF) ≡ false → is_number (shape_of space.old.vars error) ≡ true }
     requires countable { IsCountable (size_of_filled (shape_of space.old.vars dest) flat.now) }
-    ensures { Does Done (told_in space.old.vars error told (with_value space.old.vars dest (filled (shape_of space.old.vars dest) flat.now).0)) space.old result space.new }
+    ensures does { Does Done (told_in space.old.vars error told (with_value space.old.vars dest (filled (shape_of space.old.vars dest) flat.now).0)) space.old result space.new }
+    ensures leaves { Leaves (dest ∷ []) space.old space.new }
 {
     store(space, dest, flat)?;
     set_unless_left_out(space, error, told);

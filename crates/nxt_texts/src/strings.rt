@@ -8,6 +8,7 @@ ghost use Rattle.nxt_model.specs.Devices.{Devices};
 ghost use Rattle.nxt_model.specs.Means.Effects.{word_or as word_or_else};
 ghost use Rattle.nxt_model.specs.Means.Strings.{concatenate as concatenate_means, substring as substring_means, string_to_array as to_array_means, array_to_string as to_string_means};
 ghost use Rattle.nxt_model.specs.Means.Text.{ended, section as section_of};
+ghost use Rattle.nxt_space.specs.Keeping.{Leaves};
 ghost use Rattle.nxt_space.specs.Variables.{AreSound, name_of, shape_of};
 ghost use Rattle.nxt_space.specs.Outcomes.{Does};
 ghost use Rattle.nxt_space.specs.Spots.{IsListSpot};
@@ -35,7 +36,8 @@ pub fn concatenate(
     requires few { length sources.now < 2 ^ 16 }
     requires sources { All (λ i. IsSome (name_of space.old.vars i)) sources.now }
     requires texts { All (λ i. is_text (shape_of space.old.vars i) ≡ true) sources.now }
-    ensures { (d : Devices) → Does Done (values_stored space.old.vars (place_of space.old.vars dest ∷ []) (concatenate_means d (given space.old.vars dest ∷ map (given space.old.vars) sources.now))) space.old result space.new }
+    ensures does { (d : Devices) → Does Done (values_stored space.old.vars (place_of space.old.vars dest ∷ []) (concatenate_means d (given space.old.vars dest ∷ map (given space.old.vars) sources.now))) space.old result space.new }
+    ensures leaves { Leaves (dest ∷ []) space.old space.new }
 {
     // The pool is asked before the bodies are put together, since they may be far longer than it.
     let length = bodies_length(alloc, space, sources)?;
@@ -71,7 +73,8 @@ fn add_bodies(
     requires few { length (bodies_at space.old.vars others.now) + 1 < 2 ^ 31 }
     requires sources { All (λ i. IsSome (name_of space.old.vars i)) others.now }
     requires texts { All (λ i. is_text (shape_of space.old.vars i) ≡ true) others.now }
-    ensures { (i : ℕ) → IsListSpot space.old.vars i list → StoresBytes space.old i (body_at space.old.vars i ++ ended (bodies_at space.old.vars others.now)) result space.new }
+    ensures stores { (i : ℕ) → IsListSpot space.old.vars i list → StoresBytes space.old i (body_at space.old.vars i ++ ended (bodies_at space.old.vars others.now)) result space.new }
+    ensures leaves { (i : ℕ) → IsListSpot space.old.vars i list → Leaves (i ∷ []) space.old space.new }
 {
     let mut more = bodies(alloc, space, others, 0)?;
     more.push(0)?;
@@ -85,7 +88,8 @@ fn add_to_body(space: &mut Space, list: ListSpot, more: &[u8]) -> Result<(), OpF
     requires text { list.kind ≡ Ubyte }
     requires some { 0 < length more.now }
     requires few { length more.now < 2 ^ 31 }
-    ensures { (i : ℕ) → IsListSpot space.old.vars i list → StoresBytes space.old i (body_at space.old.vars i ++ more.now) result space.new }
+    ensures stores { (i : ℕ) → IsListSpot space.old.vars i list → StoresBytes space.old i (body_at space.old.vars i ++ more.now) result space.new }
+    ensures leaves { (i : ℕ) → IsListSpot space.old.vars i list → Leaves (i ∷ []) space.old space.new }
 {
     let Some(last) = final_zero(lent(space.bytes(list))) else {
         space.extend_list(list, more)?;
@@ -112,7 +116,8 @@ pub fn substring(
     requires source { IsSome (name_of space.old.vars source) }
     requires text { is_text (shape_of space.old.vars dest) ≡ true }
     requires source_text { is_text (shape_of space.old.vars source) ≡ true }
-    ensures { (d : Devices) → Does Done (values_stored space.old.vars (place_of space.old.vars dest ∷ []) (substring_means d (given space.old.vars dest) (given space.old.vars source) (given_or_left space.old.vars at) (given_or_left space.old.vars count))) space.old result space.new }
+    ensures does { (d : Devices) → Does Done (values_stored space.old.vars (place_of space.old.vars dest ∷ []) (substring_means d (given space.old.vars dest) (given space.old.vars source) (given_or_left space.old.vars at) (given_or_left space.old.vars count))) space.old result space.new }
+    ensures leaves { Leaves (dest ∷ []) space.old space.new }
 {
     let part = part_of(alloc, space, source, at, count)?;
     store_text(alloc, space, dest, part.as_slice())
@@ -151,7 +156,8 @@ pub fn string_to_array(
     requires source { IsSome (name_of space.old.vars source) }
     requires text { is_text (shape_of space.old.vars dest) ≡ true }
     requires source_text { is_text (shape_of space.old.vars source) ≡ true }
-    ensures { (d : Devices) → Does Done (values_stored space.old.vars (place_of space.old.vars dest ∷ []) (to_array_means d (given space.old.vars dest) (given space.old.vars source))) space.old result space.new }
+    ensures does { (d : Devices) → Does Done (values_stored space.old.vars (place_of space.old.vars dest ∷ []) (to_array_means d (given space.old.vars dest) (given space.old.vars source))) space.old result space.new }
+    ensures leaves { Leaves (dest ∷ []) space.old space.new }
 {
     let bytes = body_of(alloc, space, source)?;
     store_bytes(alloc, space, dest, bytes.as_slice())
@@ -181,7 +187,8 @@ pub fn array_to_string(
     requires source { IsSome (name_of space.old.vars source) }
     requires text { is_text (shape_of space.old.vars dest) ≡ true }
     requires source_text { is_text (shape_of space.old.vars source) ≡ true }
-    ensures { (d : Devices) → Does Done (values_stored space.old.vars (place_of space.old.vars dest ∷ []) (to_string_means d (given space.old.vars dest) (given space.old.vars source))) space.old result space.new }
+    ensures does { (d : Devices) → Does Done (values_stored space.old.vars (place_of space.old.vars dest ∷ []) (to_string_means d (given space.old.vars dest) (given space.old.vars source))) space.old result space.new }
+    ensures leaves { Leaves (dest ∷ []) space.old space.new }
 {
     let text = bytes_of(alloc, space, source)?;
     store_text(alloc, space, dest, text.as_slice())

@@ -1,11 +1,12 @@
 // Texts: reading them from variables, their parts, and storing them.
 
-ghost use Rattle.std.specs.Prelude.{◌≡◌, ◌+◌, ◌<◌, ◌≤◌, ◌^◌, true, map, length, drop, All, IfOk, IsSome, MatchOption};
+ghost use Rattle.std.specs.Prelude.{◌≡◌, ◌+◌, ◌<◌, ◌≤◌, ◌^◌, true, map, length, drop, All, IfOk, IsSome, MatchOption, ◌∷◌, []};
 ghost use Rattle.nxt_types.specs.Arithmetic.{word};
 ghost use Rattle.nxt_types.specs.Calls.{is_text};
 ghost use Rattle.nxt_types.specs.Pool.{pool_size};
 ghost use Rattle.nxt_model.specs.Means.Text.{body as body_of, ended, section as section_of};
 ghost use Rattle.nxt_model.specs.Values.{bytes_of};
+ghost use Rattle.nxt_space.specs.Keeping.{Leaves};
 ghost use Rattle.nxt_space.specs.Variables.{AreSound, list_of_bytes, name_of, shape_of};
 ghost use Rattle.nxt_texts.specs.Texts.{IsByte, StoresBytes, bytes_in, flat_bytes, text_at};
 
@@ -139,7 +140,8 @@ pub fn store_text(alloc: Global, space: &mut Space, dest: u16, bytes: &[u8]) -> 
     requires named { IsSome (name_of space.old.vars dest) }
     requires text { is_text (shape_of space.old.vars dest) ≡ true }
     requires few { length bytes.now + 1 < 2 ^ 32 }
-    ensures { StoresBytes space.old dest (ended bytes.now) result space.new }
+    ensures stores { StoresBytes space.old dest (ended bytes.now) result space.new }
+    ensures leaves { Leaves (dest ∷ []) space.old space.new }
 {
     if let Some(list) = space.list_spot(dest) {
         space.set_text(list, bytes)?;
@@ -163,7 +165,8 @@ pub fn store_bytes(alloc: Global, space: &mut Space, dest: u16, bytes: &[u8]) ->
     requires named { IsSome (name_of space.old.vars dest) }
     requires text { is_text (shape_of space.old.vars dest) ≡ true }
     requires few { length bytes.now < 2 ^ 32 }
-    ensures { StoresBytes space.old dest bytes.now result space.new }
+    ensures stores { StoresBytes space.old dest bytes.now result space.new }
+    ensures leaves { Leaves (dest ∷ []) space.old space.new }
 {
     if let Some(list) = space.list_spot(dest) {
         space.set_list(list, bytes)?;
@@ -178,7 +181,8 @@ fn store_apart(alloc: Global, space: &mut Space, dest: u16, bytes: &[u8]) -> Res
     requires named { IsSome (name_of space.old.vars dest) }
     requires text { is_text (shape_of space.old.vars dest) ≡ true }
     requires few { length bytes.now < 2 ^ 32 }
-    ensures { StoresBytes space.old dest bytes.now result space.new }
+    ensures stores { StoresBytes space.old dest bytes.now result space.new }
+    ensures leaves { Leaves (dest ∷ []) space.old space.new }
 {
     let flat = flat_of(alloc, bytes)?;
     store(space, dest, &flat)

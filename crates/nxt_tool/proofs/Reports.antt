@@ -10,6 +10,10 @@ pub mod Pieces
 pub mod Runs
 -- What a script's next row says of the rows to come.
 pub mod Scripts
+-- What ran of a script whose source fails.
+pub mod Cut
+-- What is then reported of a program.
+pub mod CutRuns
 -- What is due to a text that is assembled.
 pub mod Images
 -- What is due to a text that is run.

@@ -3,7 +3,10 @@ ghost use Rattle.nxt_edge.specs.Edge.{Rose, AreBytes};
 ghost use Rattle.nxt_tool.specs.Due.{Answer, Meets, read_status, fault_status, answer_to, assembled_answer, refused_answer, described_answer, Run, RunText, Describes, Assembles, Generated, Due, UsesProgram, ReadsScript, UsesScript, Accepts, Images, MayReadScript, MayWriteImage, Answers, IsQuiet, NotRefused};
 ghost use Rattle.nxt_model.specs.Image.{program_of};
 ghost use Rattle.nxt_model.specs.Program.{start};
+ghost use Rattle.nxt_tool.specs.Cut.{CutText, CutRun};
+ghost use Rattle.nxt_tool.specs.Running.{held};
 ghost use Rattle.nxt_tool.specs.Words.{command_of, texts_of};
+ghost use Rattle.nxt_tool.specs.declared.words.Command.{Command};
 ghost use Rattle.nxt_tool.specs.declared.words.Command.TheVariants.{RunRxe, RunNbc};
 
 use crate::accepting::{accept, describe, refusal_line};
@@ -50,6 +53,7 @@ fn run_program<Q: Source, R: Sink>(
 ) -> Status
     requires start { machine.state ≡ start (program_of machine.image) }
     ensures told { (s : List ℕ) → Q.left script.old ≡ Some s → Meets result (answer_to machine.image s) (R.written report.old) (R.written report.new) }
+    ensures cut { (s : List ℕ) → Q.left script.old ≡ Some s → result ≡ Status.ReadFault → CutText (held machine.image (start (program_of machine.image))) s (Q.left script.old) (Q.left script.new) (R.written report.old) (R.written report.new) }
     ensures read { result ≡ Status.ReadFault → Rose (Q.faults script.old) (Q.faults script.new) }
     ensures write { result ≡ Status.WriteFault → Rose (R.faults report.old) (R.faults report.new) }
     ensures script { Q.faults script.old ≤ Q.faults script.new }
@@ -87,6 +91,7 @@ fn run<P: Source, Q: Source, R: Sink>(
     report: &mut R,
 ) -> Status
     ensures told { (b s : List ℕ) → AreBytes b → P.left program.old ≡ Some b → (ReadsScript RunRxe b → Q.left script.old ≡ Some s) → (a : Answer) × Run b s a × Meets result a (R.written report.old) (R.written report.new) }
+    ensures cut { (b s : List ℕ) → P.left program.old ≡ Some b → ReadsScript RunRxe b → Q.left script.old ≡ Some s → result ≡ Status.ReadFault → CutRun RunRxe b s (Q.left script.old) (Q.left script.new) (R.written report.old) (R.written report.new) }
     ensures read { result ≡ Status.ReadFault → Rose (P.faults program.old) (P.faults program.new) ⊎ (Accepts RunRxe (P.left program.old) × Rose (Q.faults script.old) (Q.faults script.new)) }
     ensures write { result ≡ Status.WriteFault → Rose (R.faults report.old) (R.faults report.new) }
     ensures unread { (Accepts RunRxe (P.left program.old) → ⊥) → script.new ≡ script.old }
@@ -112,6 +117,7 @@ fn run_text<P: Source, Q: Source, R: Sink>(
     report: &mut R,
 ) -> Status
     ensures told { (b s : List ℕ) → AreBytes b → P.left program.old ≡ Some b → (ReadsScript RunNbc b → Q.left script.old ≡ Some s) → (a : Answer) × RunText b s a × Meets result a (R.written report.old) (R.written report.new) }
+    ensures cut { (b s : List ℕ) → P.left program.old ≡ Some b → ReadsScript RunNbc b → Q.left script.old ≡ Some s → result ≡ Status.ReadFault → CutRun RunNbc b s (Q.left script.old) (Q.left script.new) (R.written report.old) (R.written report.new) }
     ensures read { result ≡ Status.ReadFault → Rose (P.faults program.old) (P.faults program.new) ⊎ (Accepts RunNbc (P.left program.old) × Rose (Q.faults script.old) (Q.faults script.new)) }
     ensures write { result ≡ Status.WriteFault → Rose (R.faults report.old) (R.faults report.new) }
     ensures unread { (Accepts RunNbc (P.left program.old) → ⊥) → script.new ≡ script.old }
@@ -228,6 +234,8 @@ fn answer<P: Source, Q: Source, I: Sink, R: Sink>(
     ensures told { (b s : List ℕ) → AreBytes b → (UsesProgram (texts_of words.now) → P.left program.old ≡ Some b)
         → (UsesScript (texts_of words.now) b → Q.left script.old ≡ Some s)
         → (a : Answer) × Due (texts_of words.now) b s a × Answers result a (I.written image.old) (I.written image.new) (R.written report.old) (R.written report.new) }
+    ensures cut { (b s : List ℕ) → P.left program.old ≡ Some b → UsesScript (texts_of words.now) b → Q.left script.old ≡ Some s → result ≡ Status.ReadFault
+        → (c : Command) × (command_of (texts_of words.now) ≡ Some c) × CutRun c b s (Q.left script.old) (Q.left script.new) (R.written report.old) (R.written report.new) }
     ensures words { (result ≡ Status.Words) ↔ (command_of (texts_of words.now) ≡ None) }
     ensures read { result ≡ Status.ReadFault → Rose (P.faults program.old) (P.faults program.new) ⊎ (MayReadScript (texts_of words.now) (P.left program.old) × Rose (Q.faults script.old) (Q.faults script.new)) }
     ensures write { result ≡ Status.WriteFault → Rose (R.faults report.old) (R.faults report.new) ⊎ (MayWriteImage (texts_of words.now) (P.left program.old) × Rose (I.faults image.old) (I.faults image.new)) }
@@ -280,6 +288,11 @@ pub fn nxt<P: Source, Q: Source, I: Sink, R: Sink>(
         → (UsesScript (texts_of words.now) b → Q.left script.old ≡ Some s)
         → IsQuiet (P.faults program.old) (P.faults program.new) → IsQuiet (Q.faults script.old) (Q.faults script.new) → IsQuiet (I.faults image.old) (I.faults image.new) → IsQuiet (R.faults report.old) (R.faults report.new)
         → ((a : Answer) × Due (texts_of words.now) b s a × (result ≡ a.status)) ⊎ (result ≡ Status.NoMemory) }
+
+    // Where the source of the script fails, the report has the text of its first rows and no last line. No more records end
+    // above 8,192 bytes before the last byte that was taken; so a bad row that ends there is told, and not the fault.
+    ensures cut { (b s : List ℕ) → P.left program.old ≡ Some b → UsesScript (texts_of words.now) b → Q.left script.old ≡ Some s → result ≡ Status.ReadFault
+        → (c : Command) × (command_of (texts_of words.now) ≡ Some c) × CutRun c b s (Q.left script.old) (Q.left script.new) (R.written report.old) (R.written report.new) }
 
     // The words alone decide whether they have a form.
     ensures words { (result ≡ Status.Words) ↔ (command_of (texts_of words.now) ≡ None) }

@@ -11,8 +11,6 @@ mod edge;
 #[cfg(test)]
 mod files;
 #[cfg(test)]
-mod heaps;
-#[cfg(test)]
 mod instr;
 #[cfg(test)]
 mod layout;

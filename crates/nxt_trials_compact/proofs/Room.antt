@@ -2,12 +2,12 @@
 use Rattle.std.proofs.Common.{ℕ, ◌+◌, ◌*◌, ◌<◌, ◌≤◌, List, length, arith}
 use Rattle.nxt_rows.specs.Rows.{dope_row, row_count}
 use Rattle.nxt_blocks.specs.Blocks.{total}
-use Rattle.nxt_blocks.proofs.Packing.{fits}
+use Rattle.nxt_blocks.proofs.Laws.Packing.{fits}
 use Rattle.nxt_compact.specs.Pools.{block_bytes, blocks_in, IsSound}
-use Rattle.nxt_compact.proofs.Shifted.{bytes_of_table}
-use Rattle.nxt_compact.proofs.InPool.{standing}
-use Rattle.nxt_compact.proofs.Going.{first_full}
-use Rattle.nxt_compact.proofs.Opening.{bytes_before, before_most}
+use Rattle.nxt_compact.proofs.Laws.Shifted.{bytes_of_table}
+use Rattle.nxt_compact.proofs.Laws.InPool.{standing}
+use Rattle.nxt_compact.proofs.Laws.Going.{first_full}
+use Rattle.nxt_compact.proofs.Laws.Opening.{bytes_before, before_most}
 
 -- the rows lie in the pool
 pub row_inside : (pool : List ℕ) (table base row : ℕ) → IsSound pool table base → row < row_count pool table → table + 10 * (row + 1) ≤ length pool

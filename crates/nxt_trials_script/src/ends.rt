@@ -10,14 +10,16 @@ const MOST_BYTES: usize = 16_777_216;
 #[test]
 fn failing_sources(rt: HostRuntime) -> Result<(), Fail> {
     let alloc = rt.alloc();
-    // 12 bytes: three calls of 4 bytes, and the end.
-    for call in 0..6 {
+    // 12 bytes: three calls of 4 bytes, and the end. The first row is whole with the second call.
+    let cases = [
+        (0, "the source failed\nthe source failed\n"),
+        (1, "the source failed\nthe source failed\n"),
+        (2, "run 1\nthe source failed\nthe source failed\n"),
+        (3, "run 1\nrun 2\nthe source failed\nthe source failed\n"),
+        (4, "run 1\nrun 2\nend\nend\n"),
+    ];
+    for (call, due) in cases {
         let told = read(alloc, b"run,1\nrun,2\n", 4, &[call])?;
-        let due = if call < 4 {
-            "the source failed\nthe source failed\n"
-        } else {
-            "run 1\nrun 2\nend\nend\n"
-        };
         assert_eq!(rt; told.as_str(), due, "call {call}");
     }
     Ok(())

@@ -7,6 +7,8 @@ mod ends;
 #[cfg(test)]
 mod limits;
 #[cfg(test)]
+mod pieces;
+#[cfg(test)]
 mod reading;
 #[cfg(test)]
 mod rows;

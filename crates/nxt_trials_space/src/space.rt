@@ -9,6 +9,7 @@ mod calls;
 mod counting;
 mod inner;
 mod lists;
+mod moving;
 mod pool;
 mod spots;
 

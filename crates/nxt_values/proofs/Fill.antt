@@ -10,3 +10,5 @@ pub mod Opened
 pub mod Steps
 -- Lists whose elements are filled.
 pub mod Lists
+-- Values in which no list stands.
+pub mod NoLists

@@ -1,11 +1,11 @@
 -- Where the elements of a list stand.
-use Rattle.std.specs.Prelude.{◌≡◌, ℕ, ◌+◌, ◌*◌, ◌/◌, ◌^◌, ◌<◌, ◌≤◌, List, [], ◌∷◌, length, ℤ}
+use Rattle.std.specs.Prelude.{◌≡◌, ℕ, ◌+◌, ◌*◌, ◌/◌, ◌^◌, ◌<◌, ◌≤◌, false, List, [], ◌∷◌, length, ℤ, nat_abs}
 use Rattle.nxt_types.specs.Pool.{pool_size}
 use Rattle.nxt_types.specs.declared.shape.TocEntry.{TocEntry}
-use Rattle.nxt_types.specs.Shapes.{Shape}
+use Rattle.nxt_types.specs.Shapes.{Shape, Array, has_list}
 use Rattle.nxt_model.specs.Spans.{spans, AreApart, FitsIn}
 use Rattle.nxt_heap.specs.Lists.{Lists, bytes_at, stride_at, IsAlive}
-use Rattle.nxt_values.specs.Fills.{IsOpened, FillsEach}
+use Rattle.nxt_values.specs.Fills.{first_of, IsOpened, FillsEach}
 use Rattle.nxt_values.specs.Held.{row_in}
 use Rattle.nxt_values.specs.Regions.{bytes_in}
 use Rattle.nxt_values.specs.Writes.{without, IsOther}
@@ -60,3 +60,8 @@ pub record HasRow (table : List TocEntry) (h : Lists) (stride : ℕ) (list : Pla
 -- that list is freed
 abbrev pub closed : List TocEntry → Lists → Place → Lists
 closed table h list = without h (row_there table h list ∷ [])
+
+-- what stands there is a list of values without lists, which gets no more bytes than it has
+abbrev pub GetsNoLonger : List TocEntry → Lists → Shape → Place → List ℤ → Type 0
+GetsNoLonger table h (Array stride s) list zs = (has_list s ≡ false) × (nat_abs (first_of zs) * stride ≤ length (bytes_at h (row_there table h list)))
+GetsNoLonger table h s list zs = ⊥

@@ -1,17 +1,18 @@
 // Values that are written to the heap.
 
-ghost use Rattle.std.specs.Prelude.{◌≡◌, ◌<◌, ◌≤◌, ◌+◌, ◌*◌, ◌^◌, length, drop, slice_set, map, nat_abs, IfOk, OnOk, OnErr};
+ghost use Rattle.std.specs.Prelude.{◌≡◌, ◌<◌, ◌≤◌, ◌+◌, ◌*◌, ◌^◌, length, drop, slice_set, map, nat_abs, IfOk, OnOk, OnErr, false};
 ghost use Rattle.std.specs.Int.{to_le_bytes, w16};
 ghost use Rattle.nxt_types.specs.Arithmetic.{leaf_size as size_of_leaf, width_of};
-ghost use Rattle.nxt_types.specs.Shapes.{tree, members};
+ghost use Rattle.nxt_types.specs.Shapes.{tree, members, has_list, some_list};
 ghost use Rattle.nxt_types.specs.Names.{size, sizes};
 ghost use Rattle.nxt_types.specs.Pool.{pool_size, round4 as rounded};
-ghost use Rattle.nxt_heap.specs.Lists.{footprint};
+ghost use Rattle.nxt_heap.specs.Lists.{footprint, bytes_at};
+ghost use Rattle.nxt_heap.specs.Moves.{RowsStay, NoneMoves};
 ghost use Rattle.nxt_values.specs.Held.{leaf_place as place_of};
 ghost use Rattle.nxt_values.specs.Regions.{bytes_in, IsRegion, HoldsThere, HoldAllThere};
 ghost use Rattle.nxt_values.specs.Writes.{with_bytes, put, bytes_of_number, without, emptied, rows_there, all_rows_there, AreOwn, KeepsRows};
 ghost use Rattle.nxt_values.specs.Fills.{first_of, needs, needs_for, needs_for_all, needs_for_each, FillsThere, FillAllThere, RoomThere, RoomForAll};
-ghost use Rattle.nxt_values.specs.Elements.{AreOpened, HaveRoom, FillsElements, HasRow, row_there, closed};
+ghost use Rattle.nxt_values.specs.Elements.{AreOpened, HaveRoom, FillsElements, HasRow, row_there, closed, GetsNoLonger};
 
 use crate::elements::{Elements, elements_at, list_row};
 use crate::reading::{Place, Region, leaf_place, size_of};
@@ -36,7 +37,8 @@ impl From<PoolPassed> for Full {
 fn set_bytes(heap: &mut Heap, region: Region, at: u32, bytes: &[u8])
     requires region { IsRegion heap.old.lists region }
     requires within { at + length bytes.now ≤ length (bytes_in heap.old.lists region) }
-    ensures { heap.new.lists ≡ with_bytes heap.old.lists region (put bytes.now at (bytes_in heap.old.lists region)) }
+    ensures lists { heap.new.lists ≡ with_bytes heap.old.lists region (put bytes.now at (bytes_in heap.old.lists region)) }
+    ensures stay { RowsStay heap.old.pool heap.new.pool }
 {
     match region {
         Region::Static => heap.set_static(at, bytes),
@@ -49,7 +51,8 @@ pub fn set_row(heap: &mut Heap, region: Region, at: u32, row: u16)
     requires region { IsRegion heap.old.lists region }
     requires within { at + 2 ≤ length (bytes_in heap.old.lists region) }
     requires small { length (bytes_in heap.old.lists region) < 2 ^ 32 }
-    ensures { heap.new.lists ≡ with_bytes heap.old.lists region (put (to_le_bytes w16 row) at (bytes_in heap.old.lists region)) }
+    ensures lists { heap.new.lists ≡ with_bytes heap.old.lists region (put (to_le_bytes w16 row) at (bytes_in heap.old.lists region)) }
+    ensures stay { RowsStay heap.old.pool heap.new.pool }
 {
     set_bytes(heap, region, at, &row.to_le_bytes());
 }
@@ -59,7 +62,8 @@ pub fn set_number(heap: &mut Heap, region: Region, at: u32, kind: Kind, x: i64)
     requires region { IsRegion heap.old.lists region }
     requires within { at + size_of_leaf kind ≤ length (bytes_in heap.old.lists region) }
     requires small { length (bytes_in heap.old.lists region) < 2 ^ 32 }
-    ensures { heap.new.lists ≡ with_bytes heap.old.lists region (put (bytes_of_number kind x) at (bytes_in heap.old.lists region)) }
+    ensures lists { heap.new.lists ≡ with_bytes heap.old.lists region (put (bytes_of_number kind x) at (bytes_in heap.old.lists region)) }
+    ensures stay { RowsStay heap.old.pool heap.new.pool }
 {
     let bytes = wrap(x).to_le_bytes();
     if matches!(kind, Kind::Ulong | Kind::Slong) {
@@ -136,7 +140,8 @@ fn set_first(heap: &mut Heap, region: Region, at: u32, kind: Kind, from: &[i64])
     requires region { IsRegion heap.old.lists region }
     requires within { at + size_of_leaf kind ≤ length (bytes_in heap.old.lists region) }
     requires small { length (bytes_in heap.old.lists region) < 2 ^ 32 }
-    ensures { heap.new.lists ≡ with_bytes heap.old.lists region (put (bytes_of_number kind (first_of from.now)) at (bytes_in heap.old.lists region)) }
+    ensures lists { heap.new.lists ≡ with_bytes heap.old.lists region (put (bytes_of_number kind (first_of from.now)) at (bytes_in heap.old.lists region)) }
+    ensures stay { RowsStay heap.old.pool heap.new.pool }
 {
     set_number(heap, region, at, kind, first_number(from));
 }
@@ -212,6 +217,7 @@ fn reopen_list(
     ensures passed { OnErr result (pool_size < needs (closed entries.now heap.old.lists list) 1 (rounded (count * stride))) }
     ensures opened { IfOk result (λ elements. AreOpened entries.now (closed entries.now heap.old.lists list) heap.new.lists list stride count elements) }
     ensures row { IfOk result (λ elements. elements.row ≡ row_there entries.now heap.old.lists list) }
+    ensures shorter { OnOk result (count * stride ≤ length (bytes_at heap.old.lists (row_there entries.now heap.old.lists list)) → NoneMoves heap.old.pool heap.new.pool) }
 {
     if count > POOL_BYTES {
         return Err(Full);
@@ -246,6 +252,7 @@ pub fn fill<'a>(
     ensures pool { OnOk result (footprint heap.new.lists ≤ pool_size) }
     ensures passed { OnErr result (pool_size < needs_for heap.old.lists (tree shape.now) from.now) }
     ensures filled { IfOk result (λ rest. FillsThere entries.now heap.old.lists heap.new.lists (tree shape.now) at from.now rest.now) }
+    ensures stays { has_list (tree shape.now) ≡ false → OnOk result (RowsStay heap.old.pool heap.new.pool) }
 {
     match shape {
         Shape::Void | Shape::Mutex => Ok(behind(from)),
@@ -280,6 +287,7 @@ fn fill_elements<'a>(
     ensures pool { OnOk result (footprint heap.new.lists ≤ pool_size) }
     ensures passed { OnErr result (pool_size < needs_for_each heap.old.lists (tree element.now) elements.count from.now) }
     ensures filled { IfOk result (λ rest. FillsElements entries.now heap.old.lists heap.new.lists (tree element.now) elements from.now rest.now) }
+    ensures stays { has_list (tree element.now) ≡ false → OnOk result (RowsStay heap.old.pool heap.new.pool) }
 {
     let mut left = from;
     for k in 0..elements.count {
@@ -304,6 +312,7 @@ pub fn fill_members<'a>(
     ensures pool { OnOk result (footprint heap.new.lists ≤ pool_size) }
     ensures passed { OnErr result (pool_size < needs_for_all heap.old.lists (members (map tree shapes.now)) from.now) }
     ensures filled { IfOk result (λ rest. FillAllThere entries.now heap.old.lists heap.new.lists (members (map tree shapes.now)) at from.now rest.now) }
+    ensures stays { some_list (members (map tree shapes.now)) ≡ false → OnOk result (RowsStay heap.old.pool heap.new.pool) }
 {
     let mut left = from;
     let mut entry = at.entry;
@@ -356,6 +365,8 @@ pub fn store<'a>(
     ensures passed { OnErr result (pool_size < needs_for (emptied entries.now heap.old.lists (tree shape.now) at) (tree shape.now) from.now) }
     ensures filled { IfOk result (λ rest. FillsThere entries.now (emptied entries.now heap.old.lists (tree shape.now) at) heap.new.lists (tree shape.now) at from.now rest.now) }
     ensures rows { OnOk result (KeepsRows entries.now heap.old.lists heap.new.lists (tree shape.now) at) }
+    ensures stays { has_list (tree shape.now) ≡ false → OnOk result (RowsStay heap.old.pool heap.new.pool) }
+    ensures shorter { GetsNoLonger entries.now heap.old.lists (tree shape.now) at from.now → OnOk result (NoneMoves heap.old.pool heap.new.pool) }
 {
     if has_inner_list(shape) {
         return store_anew(heap, entries, shape, at, from);

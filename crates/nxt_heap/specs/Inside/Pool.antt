@@ -1,6 +1,6 @@
 -- The inside of the heap: a pool with the static bytes first, and above them a table of rows and a block for each list that
 -- has bytes, in any order and with gaps between them.
-use Rattle.std.specs.Prelude.{◌≡◌, ◌≢◌, ℕ, zero, suc, ◌+◌, ◌*◌, ◌/◌, ◌%◌, ◌<◌, ◌≤◌, ◌⊎◌, false, List, [], ◌∷◌, ◌++◌, length, take, drop, map, nat_eq, slice_set, slice_index, Option, Some, None, if◌then◌else◌, ◌==◌}
+use Rattle.std.specs.Prelude.{◌≡◌, ◌≢◌, ℕ, zero, suc, ◌+◌, ◌*◌, ◌/◌, ◌%◌, ◌<◌, ◌≤◌, ◌⊎◌, true, false, List, [], ◌∷◌, ◌++◌, length, take, drop, map, nat_eq, slice_set, slice_index, Option, Some, None, if◌then◌else◌, ◌==◌}
 use Rattle.std.specs.List.{list_any, range_with_len}
 use Rattle.nxt_facts.specs.PutAt.{put_at}
 use Rattle.nxt_types.specs.Pool.{round4, pool_size}
@@ -10,6 +10,7 @@ use Rattle.nxt_rows.specs.Rows.{dope_row, row_count, free_rows, IsFreeChain, no_
 use Rattle.nxt_rows.specs.declared.DopeRow.{DopeRow}
 use Rattle.nxt_compact.specs.Pools.{block_bytes, block_of, blocks_in, IsFull, IsSound, Moves}
 use Rattle.nxt_heap.specs.declared.blocks.Places.{Places}
+use Rattle.nxt_heap.specs.Moves.{holds_behind, IsLowestHole, OthersStay, RowsStay}
 use Rattle.nxt_heap.specs.Lists.{ByteList, Lists, Pool, HeapViews, of_length, with_length, IsFree, with_free, any_free, empty_list}
 
 -- ---- what the pool holds
@@ -32,6 +33,10 @@ lists_in pool table = map (list_in pool table) (range_with_len 0 (row_count pool
 
 abbrev pub state_of : ℕ → Pool → Lists
 state_of static_size p = record { static_bytes = take static_size p.bytes; by_row = lists_in p.bytes p.table }
+
+-- the pool as callers see it
+abbrev pub pool_at : List ℕ → Places → Pool
+pool_at pool p = record { bytes = pool; table = p.table }
 
 -- both views of a pool behind so many static bytes
 abbrev pub views_of : ℕ → Pool → HeapViews
@@ -62,13 +67,15 @@ lists_with_bytes pool table row at bytes =
 
 -- ---- where it stands
 
--- the blocks share no byte and begin at words, the free rows are the chain and have no elements, and an empty list has no place
+-- the blocks share no byte and begin at words, the free rows are the chain and have no elements, an empty list has no place,
+-- and no row points back
 pub record IsPool (pool : List ℕ) (table base : ℕ) : Type 0 where
   pub size : length pool ≡ pool_size
   pub sound : IsSound pool table base
   pub words : (r : ℕ) → IsFull pool table r → (dope_row pool table r).place % 4 ≡ 0
   pub empty : (r : ℕ) → 0 < r → r < row_count pool table → (dope_row pool table r).count ≡ 0 → (dope_row pool table r).place ≡ no_place
   pub bare : (r : ℕ) → 0 < r → r < row_count pool table → (dope_row pool table r).stride ≡ 0 → (dope_row pool table r).count ≡ 0
+  pub backs : (r : ℕ) → r < row_count pool table → (dope_row pool table r).back ≡ 0
   pub chain : IsFreeChain pool table
   pub free : (r : ℕ) → 0 < r → r < row_count pool table → list_any (nat_eq r) (free_rows pool table) ≡ ((dope_row pool table r).stride == 0)
 
@@ -179,6 +186,12 @@ pub record BlocksMove (old fronts_old new fronts_new : List ℕ) (p q : Places) 
   pub base : q.base ≡ p.base
   pub footprint : q.footprint ≡ p.footprint
 
+-- a row's block has room at a place, and others moved only at need
+pub record MakesRoom (old new : List ℕ) (p q : Places) (row bytes place : ℕ) : Type 0 where
+  pub behind : holds_behind p.base (pool_at old p) row bytes ≡ true → OthersStay (pool_at old p) (pool_at new q) row × (place ≡ (dope_row old p.table row).place)
+  pub hole : (at : ℕ) → holds_behind p.base (pool_at old p) row bytes ≡ false → IsLowestHole p.base (pool_at old p) bytes at → OthersStay (pool_at old p) (pool_at new q) row × (place ≡ at)
+  pub order : (r s : ℕ) → IsFull old p.table r → IsFull old p.table s → r ≢ row → s ≢ row → (dope_row old p.table r).place < (dope_row old p.table s).place → (dope_row new q.table r).place < (dope_row new q.table s).place
+
 -- ---- one list
 
 -- a living row's list may have so many bytes
@@ -229,6 +242,7 @@ pub record Frees (old new fronts : List ℕ) (p q : Places) (row : ℕ) : Type 0
   pub base : q.base ≡ p.base
   pub lists : lists_in new q.table ≡ slice_set (lists_in old p.table) row None
   pub below : (k : ℕ) → k < p.base → slice_index new k ≡ slice_index old k
+  pub stay : OthersStay (pool_at old p) (pool_at new q) row
 
 -- a row is taken for an empty list
 pub record Takes (old new fronts : List ℕ) (p q : Places) (stride row : ℕ) : Type 0 where
@@ -244,11 +258,12 @@ pub record IsRefused (pool : List ℕ) (p : Places) (f : ℕ) : Type 0 where
   pub whole : f + round4 (10 * row_count pool p.table) ≡ p.footprint + round4 (10 * (row_count pool p.table + 1))
   pub above : pool_size < f
 
--- bytes are stored in the row's list from a place on, and all places stay
+-- bytes are stored in the row's list from a place on, and all rows stay
 pub record Stores (old new : List ℕ) (table row at : ℕ) (bytes : List ℕ) : Type 0 where
   pub blocks : (fronts : List ℕ) (p : Places) → table ≡ p.table → AreBlocks old fronts p → AreBlocks new fronts p
   pub lists : lists_in new table ≡ lists_with_bytes old table row at bytes
   pub below : (fronts : List ℕ) (p : Places) → table ≡ p.table → AreBlocks old fronts p → (k : ℕ) → k < p.base → slice_index new k ≡ slice_index old k
+  pub stay : RowsStay (record { bytes = old; table = table }) (record { bytes = new; table = table })
 
 -- the fields of a heap fit one another
 pub record IsHeap (static_size : ℕ) (p : Places) (pool fronts : List ℕ) : Type 0 where

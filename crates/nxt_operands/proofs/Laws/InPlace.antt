@@ -10,7 +10,7 @@ use Rattle.nxt_types.specs.Pool.{round4, pool_size}
 use Rattle.nxt_types.specs.Shapes.{Shape, Number, Array, Cluster}
 use Rattle.nxt_types.specs.declared.kind.Kind.{Kind}
 use Rattle.nxt_model.specs.Footprint.{list_bytes}
-use Rattle.nxt_model.specs.Values.{Value, Values, Num, ListOf, GroupOf, values, items, value, no_more, elements, list_of, part, with_part, with_elements, stored, is_of, lists_in, lists_among}
+use Rattle.nxt_model.specs.Values.{Value, Num, ListOf, GroupOf, values, items, elements, list_of, part, with_part, with_elements, stored, is_of, lists_in, lists_among}
 use Rattle.nxt_model.proofs.Laws.Values.{items-values, values-items}
 use Rattle.nxt_space.specs.Spots.{IsListSpot}
 use Rattle.nxt_space.specs.Variables.{Variables, SpaceViews, AreSound, name_of, shape_of, shape_by, value_of, value_by, with_by, with_value, with_values, footprint_of}

@@ -13,7 +13,7 @@ use Rattle.nxt_values.proofs.Laws.Without.{Differ}
 
 -- ---- pairs
 
-pairs_mapped : {X Y : Type 0} (R : Y → Y → Type 0) (f : X → Y) (xs : List X) → EachPair (λ x y. R (f x) (f y)) xs → EachPair R (map f xs)
+pub pairs_mapped : {X Y : Type 0} (R : Y → Y → Type 0) (f : X → Y) (xs : List X) → EachPair (λ x y. R (f x) (f y)) xs → EachPair R (map f xs)
 pairs_mapped R f [] e = tt
 pairs_mapped R f (x ∷ xs) e = (each_mapped (R (f x)) f xs e.0, pairs_mapped R f xs e.1)
 
@@ -22,7 +22,7 @@ kept_pair S p x ys true e h k = (h e, k)
 kept_pair S p x ys false e h k = k
 
 -- of the elements that pass a test
-pairs_filter : {X : Type 0} (P : X → Type 0) (R S : X → X → Type 0) (p : X → Bool) → ((x y : X) → P x → P y → p x ≡ true → p y ≡ true → R x y → S x y) → (xs : List X) → Each P xs → EachPair R xs → EachPair S (filter p xs)
+pub pairs_filter : {X : Type 0} (P : X → Type 0) (R S : X → X → Type 0) (p : X → Bool) → ((x y : X) → P x → P y → p x ≡ true → p y ≡ true → R x y → S x y) → (xs : List X) → Each P xs → EachPair R xs → EachPair S (filter p xs)
 pairs_filter P R S p h [] all e = tt
 pairs_filter P R S p h (x ∷ xs) all e =
     kept_pair

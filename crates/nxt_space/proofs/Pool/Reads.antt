@@ -61,7 +61,7 @@ where_some : (P : ℕ → Type 0) (at stride n : ℕ) → (0 < n → Each P (pla
 where_some P at stride zero h = tt
 where_some P at stride (suc n) h = h (omega arith)
 
-count_of : (count stride n : ℕ) → 1 ≤ stride → count * stride ≡ n → n / stride ≡ count
+pub count_of : (count stride n : ℕ) → 1 ≤ stride → count * stride ≡ n → n / stride ≡ count
 count_of count stride n some e = ap (λ k. k / stride) (sym e) ∙ mul-div_cancel count some
 
 -- a row's elements, as a number in the pool names it

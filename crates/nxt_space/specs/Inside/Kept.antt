@@ -8,7 +8,7 @@ use Rattle.nxt_model.specs.Footprint.{footprint}
 use Rattle.nxt_types.specs.Pool.{round4, pool_size}
 use Rattle.nxt_heap.specs.Lists.{Lists, HeapViews, list_at, IsAlive}
 use Rattle.nxt_heap.specs.Lists as heap
-use Rattle.nxt_values.specs.Held.{values_in, IsHeld}
+use Rattle.nxt_values.specs.Held.{values_in, rows_among, IsHeld}
 use Rattle.nxt_values.specs.Regions.{IsRegion, HoldsThere, value_there}
 use Rattle.nxt_values.specs.Sizes.{IsCountable, size_there}
 use Rattle.nxt_model.specs.Spans.{HasSpans}
@@ -39,9 +39,13 @@ variables_in toc h first =
       rows = length h.by_row;
     }
 
--- both views of them
+-- the rows of their lists
+abbrev pub rows_of : Table → Lists → List ℕ
+rows_of toc h = rows_among toc.entries h toc.shapes 0 h.static_bytes 0
+
+-- all views of them
 abbrev pub views_in : Table → HeapViews → Lists → SpaceViews
-views_in toc h first = record { vars = variables_in toc h.lists first; pool = h.pool }
+views_in toc h first = record { vars = variables_in toc h.lists first; pool = h.pool; rows = rows_of toc h.lists }
 
 -- the shape that begins at an entry, and its value
 abbrev pub shape_in : Table → ℕ → Shape

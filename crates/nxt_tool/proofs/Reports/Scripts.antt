@@ -6,7 +6,7 @@ use Rattle.nxt_model.specs.Report.{Whole, Bad, TooLarge}
 use Rattle.nxt_script.specs.declared.fault.ScriptFault.{ScriptFault}
 use Rattle.nxt_script.specs.declared.fault.ScriptFault.TheVariants as faults
 use Rattle.nxt_script.specs.Rows.{Listing, no_rows, with_row}
-use Rattle.nxt_script.specs.Scripts.{Seen, Unread, Reading, Ended, to_come, rows_given, EndsWith, GivesRow, GivesEnd, IsFault, IsNext, NextOf, IsOpen}
+use Rattle.nxt_script.specs.Scripts.{Seen, Reading, Ended, to_come, rows_given, EndsWith, GivesRow, GivesEnd, IsFault, IsNext, NextOf, IsOpen}
 
 -- a call on a script that no fault ended
 module _ (old new : Seen) (left left' : Option (List ℕ)) (result : Result (Option ScriptRow) ScriptFault) (runs : IsOpen old) (next : NextOf old left new left' result) where
@@ -14,8 +14,7 @@ module _ (old new : Seen) (left left' : Option (List ℕ)) (result : Result (Opt
   next_of = by old runs next
     where
       by : (o : Seen) → IsOpen o → NextOf o left new left' result → IsNext (to_come o left) o new (to_come new left') result
-      by Unread runs next = next
-      by (Reading c p) runs next = next
+      by (Reading f) runs next = next
       by (Ended f) runs next = absurd runs
 
   pub gives_row : (row : ScriptRow) → result ≡ Ok (Some row) → GivesRow (to_come old left) old new (to_come new left') row

@@ -1,6 +1,6 @@
 // A call of each object fails in turn.
 
-use super::{Failing, MOTOR, MOTOR_REPORT, NONE, command, run_words};
+use super::{Failing, MOTOR, MOTOR_REPORT, NONE, WHOLE, command, run_words};
 use nxt_images::file_of;
 use nxt_tool::Status;
 use std::alloc::Global;
@@ -62,6 +62,44 @@ fn each_call_fails_in_turn(rt: HostRuntime) -> Result<(), Fail> {
             ..NONE
         };
         fails(&rt, alloc, report, k < 3, Status::WriteFault)?;
+    }
+    Ok(())
+}
+
+// A script of 20,000 ticks and more, whose call `failing` fails: its first rows are told, and a bad row well before the fault too.
+#[test]
+fn first_rows_are_told(rt: HostRuntime) -> Result<(), Fail> {
+    let alloc = rt.alloc();
+    let words = run_words(alloc)?;
+    let program = file_of(alloc, &MOTOR)?;
+    let told: &[u8] = b"motor,0,0,75,0,0,0,0\nstop,finished\n";
+    let bad: &[u8] = b"motor,0,0,75,0,0,0,0\nstop,finished\nscript,2\n";
+    let cases: [(&[u8], u32, Status, &[u8]); 4] = [
+        (b"run,100\n", 20, Status::ReadFault, told),
+        (b"run,100\n", 1, Status::ReadFault, told),
+        (b"run,100\n", 0, Status::ReadFault, b""),
+        (b"run,100\ntock,1\n", 20, Status::ScriptRefused, bad),
+    ];
+    for (first, failing, status, report) in cases {
+        let mut script = first.to_vec(alloc)?;
+        for _ in 0..20_000 {
+            script.extend_from_slice(b"tick,1\n")?;
+        }
+        let call = [failing];
+        let failing = Failing {
+            script: &call,
+            ..NONE
+        };
+        let ended = command(
+            alloc,
+            words.as_slice(),
+            program.as_slice(),
+            script.as_slice(),
+            WHOLE,
+            failing,
+        )?;
+        assert_eq!(rt; ended.status, status);
+        assert_eq!(rt; ended.report.as_slice(), report);
     }
     Ok(())
 }

@@ -1,6 +1,6 @@
 -- Bytes that are stored in a region.
-use Rattle.std.proofs.Common.{◌≡◌, ℕ, zero, suc, ◌+◌, ◌%◌, ◌^◌, ◌<◌, ◌≤◌, ◌⊎◌, inl, inr, true, List, [], ◌∷◌, take, drop, set, get_or, length, Option, Some, None, is_some, refl, sym, ap, ap₂, ◌∙◌, arith}
-use Rattle.std.proofs.lemmas.List.{length-set, set-get_or, get_or-set_same, get_or-set_other, drop_more}
+use Rattle.std.proofs.Common.{◌≡◌, ℕ, ◌+◌, ◌%◌, ◌^◌, ◌<◌, ◌≤◌, ◌⊎◌, inl, inr, true, List, [], ◌∷◌, take, drop, set, get_or, length, Option, Some, None, is_some, refl, sym, ap, ap₂, ◌∙◌, arith}
+use Rattle.std.proofs.lemmas.List.{length-set, set-get_or, get_or-set_same, get_or-set_other, drop_more, set-set}
 use Rattle.std.proofs.lemmas.Nat.{from_le_bytes-to_le_bytes_4}
 use Rattle.std.specs.Prelude.{ℤ, pos, negsuc}
 use Rattle.std.specs.Int.{w8, w16, w32, cast_signed, from_le_bytes, to_le_bytes}
@@ -23,11 +23,6 @@ use Rattle.nxt_values.proofs.Laws.HeldRows.{alive_within}
 use Rattle.nxt_values.proofs.Hold.Frames.{IsSame, AreSame, set_same}
 
 -- ---- regions
-
-pub set_set : {X : Type 0} (xs : List X) (i : ℕ) (a b : X) → set (set xs i a) i b ≡ set xs i b
-set_set [] i a b = refl
-set_set (x ∷ xs) zero a b = refl
-set_set (x ∷ xs) (suc i) a b = ap (λ ys. x ∷ ys) (set_set xs i a b)
 
 pub some_list : (o : Option ByteList) → is_some o ≡ true → Some (record { stride = stride_of o; bytes = bytes_of o }) ≡ o
 some_list None e = let f : ⊥ = cc in absurd f
@@ -63,7 +58,7 @@ with_twice h (Row row) xs ys e =
     (ap stride_of (at_row h row (l (stride_at h row) xs) e))
     ∙ ap
     (λ rows. record h { by_row = rows })
-    (set_set h.by_row row (l (stride_at h row) xs) (l (stride_at h row) ys))
+    (set-set h.by_row row (l (stride_at h row) xs) (l (stride_at h row) ys))
 
 -- ---- bytes
 

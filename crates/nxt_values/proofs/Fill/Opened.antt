@@ -3,7 +3,7 @@ use Rattle.std.proofs.Common.{◌≡◌, ◌≢◌, ℕ, ◌+◌, ◌*◌, ◌^�
 use Rattle.std.specs.Int.{to_le_bytes, w16}
 use Rattle.std.specs.List.{list_any}
 use Rattle.std.proofs.lemmas.Bool.{cases_eq}
-use Rattle.std.proofs.lemmas.List.{get_or-set_same, get_or-set_other}
+use Rattle.std.proofs.lemmas.List.{get_or-set_same, get_or-set_other, set-set}
 use Rattle.nxt_types.specs.declared.shape.TocEntry.{TocEntry}
 use Rattle.nxt_types.specs.Pool.{round4}
 use Rattle.nxt_types.specs.Bytes.{u16_at}
@@ -19,7 +19,7 @@ use Rattle.nxt_values.specs.declared.reading.Region.{Region}
 use Rattle.nxt_values.specs.declared.reading.Region.TheVariants.{Static, Row}
 use Rattle.nxt_values.proofs.Hold.Frames.{free_row_lists}
 use Rattle.nxt_values.proofs.Laws.HeldRows.{alive_within}
-use Rattle.nxt_values.proofs.Fill.Bytes.{set_set, at_row, bytes_with, region_with, length-put, put_same, row_stored}
+use Rattle.nxt_values.proofs.Fill.Bytes.{at_row, bytes_with, region_with, length-put, put_same, row_stored}
 use Rattle.nxt_values.proofs.Fill.Bytes as puts
 use Rattle.nxt_values.proofs.Fill.Growing.{alive_other, region_other, region_bytes, grows_then}
 use Rattle.nxt_values.proofs.Laws.Needs.{taken, spends_same, spends_then, spends_taken, spends_put}
@@ -209,7 +209,7 @@ made_long h k g row stride n free is long =
     ∙ ap (λ x. with_list x row (Some (record { stride = stride; bytes = of_length n [] }))) is
     ∙ ap
     (λ rows. record h { by_row = rows })
-    (set_set (with_free_row h).by_row row (empty_list stride) (Some (record { stride = stride; bytes = of_length n [] })))
+    (set-set (with_free_row h).by_row row (empty_list stride) (Some (record { stride = stride; bytes = of_length n [] })))
 
 pub region_taken : (h g : Lists) (region : Region) (row stride : ℕ) (bytes : List ℕ) → IsRegion h region → IsFree (with_free_row h).by_row row → g ≡ taken h row stride bytes → IsRegion g region × (bytes_in g region ≡ bytes_in h region)
 region_taken h g region row stride bytes there free is =

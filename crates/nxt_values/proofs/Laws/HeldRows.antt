@@ -42,7 +42,7 @@ one_counted true n h none = omega (arith, none refl)
 one_counted false n h none = omega (arith, h)
 
 -- elements that all differ stand once each
-own_once : (r : ℕ) (xs : List ℕ) → AllPairs (λ a b. a ≢ b) xs → tally (is_it r) xs ≤ 1
+pub own_once : (r : ℕ) (xs : List ℕ) → AllPairs (λ a b. a ≢ b) xs → tally (is_it r) xs ≤ 1
 own_once r [] own = omega arith
 own_once r (x ∷ xs) own =
     let rest = own_once r xs (λ i j d a b. own (suc i) (suc j) d (omega (arith, a)) (omega (arith, b))) in

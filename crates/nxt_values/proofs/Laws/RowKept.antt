@@ -2,7 +2,7 @@
 use Rattle.std.proofs.Common.{◌≡◌, ◌≢◌, ℕ, zero, suc, ◌+◌, ◌*◌, ◌<◌, ◌≤◌, inl, inr, true, false, ◌||◌, max, List, [], ◌∷◌, map, flat_map, take, drop, length, sum_by, Some, None, is_some, refl, sym, ap, ap₂, ◌∙◌, subst, arith, eq-eqb, length-set, append-nil, suc-mul}
 use Rattle.std.specs.Prelude.{slice_get}
 use Rattle.std.proofs.lemmas.Bool.{cases_eq}
-use Rattle.std.proofs.lemmas.List.{get_or-set_same, get_or-set_other}
+use Rattle.std.proofs.lemmas.List.{get_or-set_same, get_or-set_other, set-set}
 use Rattle.nxt_facts.proofs.Each.{Each}
 use Rattle.nxt_facts.specs.Places.{places_from}
 use Rattle.nxt_types.specs.Arithmetic.{leaf_size}
@@ -22,7 +22,6 @@ use Rattle.nxt_values.specs.Writes.{without, IsOther}
 use Rattle.nxt_values.specs.Fills.{Fills, Grows, Spends, living, filled}
 use Rattle.nxt_values.specs.declared.reading.Region.{Region}
 use Rattle.nxt_model.specs.Spans.{spans}
-use Rattle.nxt_values.proofs.Fill.Bytes.{set_set}
 use Rattle.nxt_values.proofs.Fill.Growing.{alive_other, region_bytes}
 use Rattle.nxt_values.proofs.Laws.Filled.{filled_own}
 use Rattle.nxt_values.proofs.Laws.HeldRows.{alive_within}
@@ -58,10 +57,10 @@ module _ (h : Lists) (row : ℕ) (bytes : List ℕ) (alive : IsAlive h row) wher
       ∙ sym (get_or-set_other h.by_row row q None None (λ e. other (sym e)))
 
   back : with_list emptied row (Some kept) ≡ set
-  back = ap (λ rows. record h { by_row = rows }) (set_set h.by_row row None (Some kept))
+  back = ap (λ rows. record h { by_row = rows }) (set-set h.by_row row None (Some kept))
 
   gone : with_list set row None ≡ emptied
-  gone = ap (λ rows. record h { by_row = rows }) (set_set h.by_row row (Some kept) None)
+  gone = ap (λ rows. record h { by_row = rows }) (set-set h.by_row row (Some kept) None)
 
   -- one list more, and its block
   row_spends : Spends emptied set 1 (round4 (length bytes))

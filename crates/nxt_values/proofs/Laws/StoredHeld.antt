@@ -129,6 +129,12 @@ pub same_values : (table : List TocEntry) (ss : Members) (h g : Lists) (s : Shap
 same_values table ss h g s j zs rest e room part fills =
     ap group_of (replaced table ss h g s j zs rest e room part fills).1.value_was
 
+-- where the part keeps its rows, so do all variables
+pub stored_rows : (table : List TocEntry) (ss : Members) (h g : Lists) (s : Shape) (j : ℕ) (zs rest : List ℤ) → IsHeld table ss h → HasSpans table ss (length h.static_bytes) → (part : StandsAmong ss 0 s j) → Fills table (without h (gone_rows table h Static 0 s j)) g s j Static 0 zs rest → gone_rows table g Static 0 s j ≡ gone_rows table h Static 0 s j → rows_among table g ss 0 g.static_bytes 0 ≡ rows_among table h ss 0 h.static_bytes 0
+stored_rows table ss h g s j zs rest e room part fills same =
+    let r = (replaced table ss h g s j zs rest e room part fills).1 in
+    r.has ∙ ap (λ rows. r.before ++ (rows ++ r.after)) same ∙ sym r.had
+
 -- the variables are held again
 pub stored_held : (table : List TocEntry) (ss : Members) (h g : Lists) (s : Shape) (j : ℕ) (zs rest : List ℤ) → IsHeld table ss h → HasSpans table ss (length h.static_bytes) → (part : StandsAmong ss 0 s j) → Fills table (without h (gone_rows table h Static 0 s j)) g s j Static 0 zs rest → IsHeld table ss g
 stored_held table ss h g s j zs rest e room part fills =

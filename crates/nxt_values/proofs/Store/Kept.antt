@@ -3,7 +3,7 @@ use Rattle.std.proofs.Common.{◌≡◌, ℕ, zero, suc, ◌+◌, ◌*◌, ◌<�
 use Rattle.std.specs.List.{list_any}
 use Rattle.std.specs.Prelude.{ℤ}
 use Rattle.std.proofs.lemmas.Bool.{or_parts}
-use Rattle.std.proofs.lemmas.List.{length-set, get_or-set_same}
+use Rattle.std.proofs.lemmas.List.{length-set, get_or-set_same, set-set}
 use Rattle.nxt_types.specs.Shapes.{Shape, Void, Number, Array, Cluster, Mutex, Members, no_members, member, has_list, some_list, tree}
 use Rattle.nxt_types.specs.declared.shape.Shape as seen
 use Rattle.nxt_types.specs.Names.{size}
@@ -20,7 +20,6 @@ use Rattle.nxt_values.specs.declared.reading.Place.{Place}
 use Rattle.nxt_values.proofs.Laws.HeldRows.{alive_within}
 use Rattle.nxt_values.proofs.Laws.Needs.{taken}
 use Rattle.nxt_values.proofs.Laws.Without.{region_kept}
-use Rattle.nxt_values.proofs.Fill.Bytes.{set_set}
 use Rattle.nxt_values.proofs.Fill.Growing.{or_right, region_bytes}
 use Rattle.nxt_values.proofs.Fill.Opened.{opens_again}
 
@@ -124,7 +123,7 @@ reopens table h list stride n first there has =
       bytes = kept.bytes;
       free = subst (λ ys. IsFree ys row) (sym same) free;
       is = ap (λ wide. with_list h row (l wide)) has.wide
-          ∙ ap (λ ys. record h { by_row = ys }) (sym (set_set h.by_row row None (l stride)))
+          ∙ ap (λ ys. record h { by_row = ys }) (sym (set-set h.by_row row None (l stride)))
           ∙ ap (λ ys. record h { by_row = set ys row (l stride) }) (sym same);
     }
 

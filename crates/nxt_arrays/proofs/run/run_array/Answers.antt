@@ -34,12 +34,12 @@ index-requires c =
       fit = f.two.asked;
     }
 
-pub returns-in-Index : goal.returns-in-Index
-returns-in-Index c d t =
+pub returns-in-Index-clause-does : goal.returns-in-Index-clause-does
+returns-in-Index-clause-does c d t =
     let s = c.args.space.now.vars in
     let i = c.args.i.now in
     let means = meanings.index_means s i c.args.words.now d t c.in-Index.is (fits.index_fit s i c.args.words.now c.in-Index.is c.requires.fit) in
-    subst (λ v. Does Done v c.args.space.now c.index.result c.index.new.space) (sym means) (c.index.ensures d)
+    subst (λ v. Does Done v c.args.space.now c.index.result c.index.new.space) (sym means) (c.index.ensures.does d)
 
 pub replace-requires : goal.replace-requires
 replace-requires c =
@@ -56,12 +56,12 @@ replace-requires c =
       goes = f.new.asked;
     }
 
-pub returns-in-Replace : goal.returns-in-Replace
-returns-in-Replace c d t =
+pub returns-in-Replace-clause-does : goal.returns-in-Replace-clause-does
+returns-in-Replace-clause-does c d t =
     let s = c.args.space.now.vars in
     let i = c.args.i.now in
     let means = meanings.replace_means s i c.args.words.now d t c.in-Replace.is (fits.replace_fit s i c.args.words.now c.in-Replace.is c.requires.fit) in
-    subst (λ v. Does Done v c.args.space.now c.replace.result c.replace.new.space) (sym means) (c.replace.ensures d)
+    subst (λ v. Does Done v c.args.space.now c.replace.result c.replace.new.space) (sym means) (c.replace.ensures.does d)
 
 pub array_size-requires : goal.array_size-requires
 array_size-requires c =
@@ -75,12 +75,12 @@ array_size-requires c =
       number = f.first.has;
     }
 
-pub returns-in-Arrsize : goal.returns-in-Arrsize
-returns-in-Arrsize c d t =
+pub returns-in-Arrsize-clause-does : goal.returns-in-Arrsize-clause-does
+returns-in-Arrsize-clause-does c d t =
     let s = c.args.space.now.vars in
     let i = c.args.i.now in
     let means = meanings.size_means s i c.args.words.now d t c.in-Arrsize.is (fits.size_fit s i c.args.words.now c.in-Arrsize.is c.requires.fit) in
-    subst (λ v. Does Done v c.args.space.now (Ok tt) c.array_size.new.space) (sym means) (c.array_size.ensures d)
+    subst (λ v. Does Done v c.args.space.now (Ok tt) c.array_size.new.space) (sym means) (c.array_size.ensures.does d)
 
 pub subset-requires : goal.subset-requires
 subset-requires c =
@@ -95,12 +95,12 @@ subset-requires c =
       fit = f.two.asked;
     }
 
-pub returns-in-Arrsubset : goal.returns-in-Arrsubset
-returns-in-Arrsubset c d t =
+pub returns-in-Arrsubset-clause-does : goal.returns-in-Arrsubset-clause-does
+returns-in-Arrsubset-clause-does c d t =
     let s = c.args.space.now.vars in
     let i = c.args.i.now in
     let means = meanings.subset_means s i c.args.words.now d t c.in-Arrsubset.is (fits.subset_fit s i c.args.words.now c.in-Arrsubset.is c.requires.fit) in
-    subst (λ v. Does Done v c.args.space.now c.subset.result c.subset.new.space) (sym means) (c.subset.ensures d)
+    subst (λ v. Does Done v c.args.space.now c.subset.result c.subset.new.space) (sym means) (c.subset.ensures.does d)
 
 pub initialize-requires : goal.initialize-requires
 initialize-requires c =
@@ -117,12 +117,12 @@ initialize-requires c =
       fit = f.two.asked;
     }
 
-pub returns-in-Arrinit : goal.returns-in-Arrinit
-returns-in-Arrinit c d t =
+pub returns-in-Arrinit-clause-does : goal.returns-in-Arrinit-clause-does
+returns-in-Arrinit-clause-does c d t =
     let s = c.args.space.now.vars in
     let i = c.args.i.now in
     let means = meanings.initialize_means s i c.args.words.now d t c.in-Arrinit.is (fits.initialize_fit s i c.args.words.now c.in-Arrinit.is c.requires.fit) in
-    subst (λ v. Does Done v c.args.space.now c.initialize.result c.initialize.new.space) (sym means) (c.initialize.ensures d)
+    subst (λ v. Does Done v c.args.space.now c.initialize.result c.initialize.new.space) (sym means) (c.initialize.ensures.does d)
 
 -- ---- values as bytes, and numbers in texts
 
@@ -144,12 +144,12 @@ flatten-requires c =
       no_list = no_list (has_list (shape_of s i.b)) f.asked;
     }
 
-pub returns-in-Flatten : goal.returns-in-Flatten
-returns-in-Flatten c d t =
+pub returns-in-Flatten-clause-does : goal.returns-in-Flatten-clause-does
+returns-in-Flatten-clause-does c d t =
     let s = c.args.space.now.vars in
     let i = c.args.i.now in
     let means = meanings.flatten_means s i c.args.words.now d t c.in-Flatten.is (fits.flatten_fit s i c.args.words.now c.in-Flatten.is c.requires.fit) in
-    subst (λ v. Does Done v c.args.space.now c.flatten.result c.flatten.new.space) (sym means) (c.flatten.ensures d)
+    subst (λ v. Does Done v c.args.space.now c.flatten.result c.flatten.new.space) (sym means) (c.flatten.ensures.does d)
 
 pub unflatten-requires : goal.unflatten-requires
 unflatten-requires c =
@@ -167,12 +167,12 @@ unflatten-requires c =
       fit = (and_parts (not (has_list (shape_of s i.d))) (convertible (shape_of s i.a) (shape_of s i.d)) f.two.asked).1;
     }
 
-pub returns-in-Unflatten : goal.returns-in-Unflatten
-returns-in-Unflatten c d t =
+pub returns-in-Unflatten-clause-does : goal.returns-in-Unflatten-clause-does
+returns-in-Unflatten-clause-does c d t =
     let s = c.args.space.now.vars in
     let i = c.args.i.now in
     let means = meanings.unflatten_means s i c.args.words.now d t c.in-Unflatten.is (fits.unflatten_fit s i c.args.words.now c.in-Unflatten.is c.requires.fit) in
-    subst (λ v. Does Done v c.args.space.now c.unflatten.result c.unflatten.new.space) (sym means) (c.unflatten.ensures d)
+    subst (λ v. Does Done v c.args.space.now c.unflatten.result c.unflatten.new.space) (sym means) (c.unflatten.ensures.does d)
 
 pub number_to_string-requires : goal.number_to_string-requires
 number_to_string-requires c =
@@ -187,12 +187,12 @@ number_to_string-requires c =
       is_number = f.second.has;
     }
 
-pub returns-in-Numtostr : goal.returns-in-Numtostr
-returns-in-Numtostr c d t =
+pub returns-in-Numtostr-clause-does : goal.returns-in-Numtostr-clause-does
+returns-in-Numtostr-clause-does c d t =
     let s = c.args.space.now.vars in
     let i = c.args.i.now in
     let means = meanings.to_string_means s i c.args.words.now d t c.in-Numtostr.is (fits.to_string_fit s i c.args.words.now c.in-Numtostr.is c.requires.fit) in
-    subst (λ v. Does Done v c.args.space.now c.number_to_string.result c.number_to_string.new.space) (sym means) (c.number_to_string.ensures d)
+    subst (λ v. Does Done v c.args.space.now c.number_to_string.result c.number_to_string.new.space) (sym means) (c.number_to_string.ensures.does d)
 
 pub string_to_number-requires : goal.string_to_number-requires
 string_to_number-requires c =
@@ -208,12 +208,12 @@ string_to_number-requires c =
       source_text = f.two.second.has;
     }
 
-pub returns-in-Strtonum : goal.returns-in-Strtonum
-returns-in-Strtonum c d t =
+pub returns-in-Strtonum-clause-does : goal.returns-in-Strtonum-clause-does
+returns-in-Strtonum-clause-does c d t =
     let s = c.args.space.now.vars in
     let i = c.args.i.now in
     let means = meanings.to_number_means s i c.args.words.now d t c.in-Strtonum.is (fits.to_number_fit s i c.args.words.now c.in-Strtonum.is c.requires.fit) in
-    subst (λ v. Does Done v c.args.space.now c.string_to_number.result c.string_to_number.new.space) (sym means) (c.string_to_number.ensures d)
+    subst (λ v. Does Done v c.args.space.now c.string_to_number.result c.string_to_number.new.space) (sym means) (c.string_to_number.ensures.does d)
 
 -- ---- texts
 
@@ -230,12 +230,12 @@ substring-requires c =
       source_text = f.two.second.has;
     }
 
-pub returns-in-Strsubset : goal.returns-in-Strsubset
-returns-in-Strsubset c d t =
+pub returns-in-Strsubset-clause-does : goal.returns-in-Strsubset-clause-does
+returns-in-Strsubset-clause-does c d t =
     let s = c.args.space.now.vars in
     let i = c.args.i.now in
     let means = meanings.substring_means s i c.args.words.now d t c.in-Strsubset.is (fits.substring_fit s i c.args.words.now c.in-Strsubset.is c.requires.fit) in
-    subst (λ v. Does Done v c.args.space.now c.substring.result c.substring.new.space) (sym means) (c.substring.ensures d)
+    subst (λ v. Does Done v c.args.space.now c.substring.result c.substring.new.space) (sym means) (c.substring.ensures.does d)
 
 pub string_to_array-requires : goal.string_to_array-requires
 string_to_array-requires c =
@@ -250,12 +250,12 @@ string_to_array-requires c =
       source_text = f.second.has;
     }
 
-pub returns-in-Strtoarr : goal.returns-in-Strtoarr
-returns-in-Strtoarr c d t =
+pub returns-in-Strtoarr-clause-does : goal.returns-in-Strtoarr-clause-does
+returns-in-Strtoarr-clause-does c d t =
     let s = c.args.space.now.vars in
     let i = c.args.i.now in
     let means = meanings.to_array_means s i c.args.words.now d t c.in-Strtoarr.is (fits.to_array_fit s i c.args.words.now c.in-Strtoarr.is c.requires.fit) in
-    subst (λ v. Does Done v c.args.space.now c.string_to_array.result c.string_to_array.new.space) (sym means) (c.string_to_array.ensures d)
+    subst (λ v. Does Done v c.args.space.now c.string_to_array.result c.string_to_array.new.space) (sym means) (c.string_to_array.ensures.does d)
 
 -- the only statement left
 only_left : (o : Op) → runs o ≡ true → o ≢ ops.Index → o ≢ ops.Replace → o ≢ ops.Arrsize → o ≢ ops.Arrbuild → o ≢ ops.Arrsubset → o ≢ ops.Arrinit → o ≢ ops.Flatten → o ≢ ops.Unflatten → o ≢ ops.Numtostr → o ≢ ops.Strtonum → o ≢ ops.Strcat → o ≢ ops.Strsubset → o ≢ ops.Strtoarr → o ≡ ops.Arrtostr
@@ -291,13 +291,13 @@ array_to_string-requires c =
       source_text = f.second.has;
     }
 
-pub returns-in_default : goal.returns-in_default
-returns-in_default c d t =
+pub returns-in_default-clause-does : goal.returns-in_default-clause-does
+returns-in_default-clause-does c d t =
     let s = c.args.space.now.vars in
     let i = c.args.i.now in
     let left = only_left i.op c.requires.runs c.in_default.not-Index c.in_default.not-Replace c.in_default.not-Arrsize c.in_default.not-Arrbuild c.in_default.not-Arrsubset c.in_default.not-Arrinit c.in_default.not-Flatten c.in_default.not-Unflatten c.in_default.not-Numtostr c.in_default.not-Strtonum c.in_default.not-Strcat c.in_default.not-Strsubset c.in_default.not-Strtoarr in
     let means = meanings.of_array_means s i c.args.words.now d t left (fits.of_array_fit s i c.args.words.now left c.requires.fit) in
-    subst (λ v. Does Done v c.args.space.now c.array_to_string.result c.array_to_string.new.space) (sym means) (c.array_to_string.ensures d)
+    subst (λ v. Does Done v c.args.space.now c.array_to_string.result c.array_to_string.new.space) (sym means) (c.array_to_string.ensures.does d)
 
 -- ---- any number of operands
 
@@ -316,13 +316,13 @@ build-requires c =
       fit = subst (All (λ w. goes_into (shape_of s i.a) (shape_of s w) ≡ true)) is f.asked;
     }
 
-pub returns-in-Arrbuild : goal.returns-in-Arrbuild
-returns-in-Arrbuild c d t =
+pub returns-in-Arrbuild-clause-does : goal.returns-in-Arrbuild-clause-does
+returns-in-Arrbuild-clause-does c d t =
     let s = c.args.space.now.vars in
     let i = c.args.i.now in
     let means = meanings.build_means s i c.args.words.now d t c.in-Arrbuild.is (several.build_fit s i c.args.words.now c.in-Arrbuild.is c.requires.fit) in
     let stored : List ℕ → Value = λ ws. values_stored s (place_of s i.a ∷ []) (build d (given s i.a ∷ map (given s) ws)) in
-    subst (λ v. Does Done v c.args.space.now c.build.result c.build.new.space) (ap stored c.sources_of.ensures.sources ∙ sym means) (c.build.ensures d)
+    subst (λ v. Does Done v c.args.space.now c.build.result c.build.new.space) (ap stored c.sources_of.ensures.sources ∙ sym means) (c.build.ensures.does d)
 
 pub concatenate-requires : goal.concatenate-requires
 concatenate-requires c =
@@ -339,10 +339,10 @@ concatenate-requires c =
       texts = subst (All (λ w. is_text (shape_of s w) ≡ true)) is (λ k d less. (f.parts k d less).has);
     }
 
-pub returns-in-Strcat : goal.returns-in-Strcat
-returns-in-Strcat c d t =
+pub returns-in-Strcat-clause-does : goal.returns-in-Strcat-clause-does
+returns-in-Strcat-clause-does c d t =
     let s = c.args.space.now.vars in
     let i = c.args.i.now in
     let means = meanings.concatenate_means s i c.args.words.now d t c.in-Strcat.is (several.concatenate_fit s i c.args.words.now c.in-Strcat.is c.requires.fit) in
     let stored : List ℕ → Value = λ ws. values_stored s (place_of s i.a ∷ []) (concatenate d (given s i.a ∷ map (given s) ws)) in
-    subst (λ v. Does Done v c.args.space.now c.concatenate.result c.concatenate.new.space) (ap stored c.sources_of-in-Strcat.ensures.sources ∙ sym means) (c.concatenate.ensures d)
+    subst (λ v. Does Done v c.args.space.now c.concatenate.result c.concatenate.new.space) (ap stored c.sources_of-in-Strcat.ensures.sources ∙ sym means) (c.concatenate.ensures.does d)

@@ -2,8 +2,8 @@ use Rattle.std.proofs.Common.{inl, inr, sym, subst, arith}
 use Rattle.nxt_rows.specs.Rows.{dope_row}
 use Rattle.nxt_compact.specs.Steps.{IsMovable, moved_to}
 use Rattle.nxt_compact.specs.Pools.{Moves}
-use Rattle.nxt_compact.proofs.Shifted.{bytes_of_table}
-use Rattle.nxt_compact.proofs.Moving.{list_moves, table_moves}
+use Rattle.nxt_compact.proofs.Laws.Shifted.{bytes_of_table}
+use Rattle.nxt_compact.proofs.Laws.Moving.{list_moves, table_moves}
 use Rattle.nxt_compact.proofs.relocate.move_block.Goals as goal
 
 pub move_list-requires-clause-table : goal.move_list-requires-clause-table

@@ -1,7 +1,7 @@
 use Rattle.std.proofs.Common.{◌≡◌, ◌+◌, ◌*◌, inl, inr, slice_index, ap, ◌∙◌, arith}
 use Rattle.nxt_rows.specs.Rows.{dope_row}
 use Rattle.nxt_compact.specs.Pools.{block_bytes}
-use Rattle.nxt_compact.proofs.Shifted.{dope_row-shifted, bytes_of_table}
+use Rattle.nxt_compact.proofs.Laws.Shifted.{dope_row-shifted, bytes_of_table}
 use Rattle.nxt_compact.proofs.relocate.move_table.Goals as goal
 
 pub get-found-requires : goal.get-found-requires

@@ -1,14 +1,14 @@
 use Rattle.std.proofs.Common.{◌≡◌, suc, ◌+◌, ◌≤◌, length, ap, subst, sym, ◌∙◌, arith}
 use Rattle.nxt_rows.specs.Rows.{dope_row}
 use Rattle.nxt_blocks.specs.Blocks.{packed}
-use Rattle.nxt_blocks.proofs.Lowest.{unsettled_none}
-use Rattle.nxt_blocks.proofs.Packing.{below_none}
-use Rattle.nxt_blocks.proofs.Settling.{block_packed-le}
-use Rattle.nxt_blocks.proofs.Sums.{each_from}
-use Rattle.nxt_blocks.proofs.Walking.{IsLowest, walk-packed, walk-next, walk-unsettled, walk-settled, walk-all}
+use Rattle.nxt_blocks.proofs.Laws.Lowest.{unsettled_none}
+use Rattle.nxt_blocks.proofs.Laws.Packing.{below_none}
+use Rattle.nxt_blocks.proofs.Laws.Settling.{block_packed-le}
+use Rattle.nxt_blocks.proofs.Laws.Sums.{each_from}
+use Rattle.nxt_blocks.proofs.Laws.Walking.{IsLowest, walk-packed, walk-next, walk-unsettled, walk-settled, walk-all}
 use Rattle.nxt_compact.specs.Pools.{block_bytes, block_of, blocks_in, IsFull}
-use Rattle.nxt_compact.proofs.InPool.{in_full, standing}
-use Rattle.nxt_compact.proofs.Opening.{few}
+use Rattle.nxt_compact.proofs.Laws.InPool.{in_full, standing}
+use Rattle.nxt_compact.proofs.Laws.Opening.{few}
 use Rattle.nxt_compact.proofs.Ordered.{Ahead, ahead_first, lowest_is, full_key, ahead_next, all_passed, table_of}
 use Rattle.nxt_compact.proofs.settling.count_unsettled.Goals as goal
 use Rattle.nxt_compact.proofs.settling.count_unsettled.Goals.{then-at-found, else-at-found}

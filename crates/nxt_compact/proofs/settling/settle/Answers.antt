@@ -2,7 +2,7 @@ use Rattle.std.proofs.Common.{◌≡◌, suc, length, ap, subst, ◌∙◌, arit
 use Rattle.nxt_rows.specs.Rows.{dope_row}
 use Rattle.nxt_compact.specs.Pools.{block_bytes}
 use Rattle.nxt_compact.proofs.Next.{IsNext}
-use Rattle.nxt_compact.proofs.Going.{Going-start, Going-moved, Going-stayed, Going-full, Going-out, Block', going_inside, next_inside, going_above, movable}
+use Rattle.nxt_compact.proofs.Laws.Going.{Going-start, Going-moved, Going-stayed, Going-full, Going-out, Block', going_inside, next_inside, going_above, movable}
 use Rattle.nxt_compact.proofs.Ordered.{Ahead, ahead_first, next_row, ahead_next, all_passed}
 use Rattle.nxt_compact.proofs.settling.settle.Goals as goal
 use Rattle.nxt_compact.proofs.settling.settle.Goals.{then-at-found, else-at-found}

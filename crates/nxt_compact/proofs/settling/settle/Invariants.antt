@@ -1,5 +1,5 @@
 use Rattle.std.proofs.Common.{ℕ, ◌≤◌}
-use Rattle.nxt_compact.proofs.Going.{Going}
+use Rattle.nxt_compact.proofs.Laws.Going.{Going}
 use Rattle.nxt_compact.proofs.Ordered.{Ahead}
 use Rattle.nxt_compact.proofs.settling.settle.Given as goal
 

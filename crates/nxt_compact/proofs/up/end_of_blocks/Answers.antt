@@ -2,7 +2,7 @@ use Rattle.std.proofs.Common.{◌≡◌, ◌+◌, ◌≤◌, ap, ◌∙◌, arit
 use Rattle.nxt_rows.specs.Rows.{dope_row, row_count}
 use Rattle.nxt_blocks.specs.Blocks.{total}
 use Rattle.nxt_compact.specs.Pools.{block_bytes, blocks_in}
-use Rattle.nxt_compact.proofs.Opening.{bytes_before, before_next, before_all, before_most}
+use Rattle.nxt_compact.proofs.Laws.Opening.{bytes_before, before_next, before_all, before_most}
 use Rattle.nxt_compact.proofs.up.end_of_blocks.Goals as goal
 
 size : (c : goal.After-block_bytes) → c.block_bytes.result ≡ block_bytes (dope_row c.args.pool.now c.args.table c.loop-row.row)

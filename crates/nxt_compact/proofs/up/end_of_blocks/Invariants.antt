@@ -1,6 +1,6 @@
 use Rattle.std.proofs.Common.{◌≡◌, ◌+◌}
 use Rattle.nxt_rows.specs.Rows.{row_count}
-use Rattle.nxt_compact.proofs.Opening.{bytes_before}
+use Rattle.nxt_compact.proofs.Laws.Opening.{bytes_before}
 use Rattle.nxt_compact.proofs.up.end_of_blocks.Given as goal
 
 abbrev pub invariant-loop-row : goal.invariant-loop-row

@@ -1,7 +1,7 @@
 use Rattle.std.proofs.Common.{◌≡◌, ℕ, ◌+◌, ◌*◌, ◌≤◌, inl, inr, length, ap, sym, ◌∙◌, arith}
 use Rattle.nxt_rows.specs.Rows.{dope_row, row_count}
 use Rattle.nxt_compact.specs.Steps.{IsLiftable}
-use Rattle.nxt_compact.proofs.Shifted.{bytes_of_table}
+use Rattle.nxt_compact.proofs.Laws.Shifted.{bytes_of_table}
 use Rattle.nxt_compact.proofs.Lifting.{Copied, rows_copied, table_inside, lifted, place_room, copied_from}
 use Rattle.nxt_compact.proofs.up.lift.Goals as goal
 

@@ -4,8 +4,8 @@ use Rattle.nxt_rows.specs.Rows.{dope_row}
 use Rattle.nxt_rows.specs.declared.DopeRow.{DopeRow}
 use Rattle.nxt_compact.specs.Pools.{block_bytes, IsFull, Moves}
 use Rattle.nxt_compact.specs.Steps.{IsLiftable, up_from}
-use Rattle.nxt_compact.proofs.Shifted.{le-round4}
-use Rattle.nxt_compact.proofs.Opening.{packs, room_for, liftable, opened}
+use Rattle.nxt_compact.proofs.Laws.Shifted.{le-round4}
+use Rattle.nxt_compact.proofs.Laws.Opening.{packs, room_for, liftable, opened}
 use Rattle.nxt_compact.proofs.up.open_gap.Goals as goal
 
 pub get-found-requires : goal.get-found-requires

@@ -1,9 +1,9 @@
-use Rattle.std.proofs.Common.{◌≡◌, ◌+◌, ◌-◌, ◌*◌, ◌≤◌, inl, refl, ap, ◌∙◌, arith}
+use Rattle.std.proofs.Common.{◌≡◌, ◌+◌, ◌*◌, ◌≤◌, inl, refl, ap, ◌∙◌, arith}
 use Rattle.nxt_types.specs.Pool.{round4}
 use Rattle.nxt_rows.specs.Rows.{dope_row, row_count}
 use Rattle.nxt_compact.specs.Pools.{block_bytes}
-use Rattle.nxt_compact.proofs.Going.{first_full}
-use Rattle.nxt_compact.proofs.Opening.{before_most}
+use Rattle.nxt_compact.proofs.Laws.Going.{first_full}
+use Rattle.nxt_compact.proofs.Laws.Opening.{before_most}
 use Rattle.nxt_heap.proofs.RowAdded.{table_was, added_pool, added_lists, added_fronts, added_last, added_most, added_total}
 use Rattle.nxt_heap.proofs.Settled.{total_below, end_inside}
 use Rattle.nxt_heap.proofs.blocks.add_row.Goals as goal
@@ -42,8 +42,8 @@ overflow_add-at-2 c = let f = fits c in omega (arith, f.most, f.more)
 pub overflow_sub-at : goal.overflow_sub-at
 overflow_sub-at c = let f = fits c in omega (arith, f.own)
 
-pub returns : goal.returns
-returns c =
+pub returns-clause-added : goal.returns-clause-added
+returns-clause-added c =
     let b = c.requires.blocks in
     let pool = c.args.pool.now in
     let table = c.args.at.now.table in

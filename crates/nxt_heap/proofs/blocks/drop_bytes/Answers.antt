@@ -1,8 +1,8 @@
-use Rattle.std.proofs.Common.{◌≡◌, ℕ, ◌-◌, ◌/◌, ◌≤◌, inl, List, length, refl, ap, subst, ◌∙◌, arith}
+use Rattle.std.proofs.Common.{◌≡◌, ℕ, ◌/◌, ◌≤◌, inl, List, length, refl, ap, subst, ◌∙◌, arith}
 use Rattle.nxt_rows.specs.Rows.{dope_row, no_place}
 use Rattle.nxt_compact.specs.Pools.{block_bytes, IsFull}
-use Rattle.nxt_compact.proofs.Going.{first_full}
-use Rattle.nxt_compact.proofs.Opening.{before_most}
+use Rattle.nxt_compact.proofs.Laws.Going.{first_full}
+use Rattle.nxt_compact.proofs.Laws.Opening.{before_most}
 use Rattle.nxt_heap.specs.Inside.Pool.{IsPool, IsEndBelow}
 use Rattle.nxt_heap.proofs.Begins.{table_inside}
 use Rattle.nxt_heap.proofs.Emptied.{own_none, emptied_pool, emptied_lists, emptied_fronts, emptied_none, emptied_last, emptied_end, table_below}

@@ -1,9 +1,10 @@
 use Rattle.std.proofs.Common.{◌≡◌, ◌≢◌, ℕ, ◌<◌, List, None, set, sym, ap, ◌∙◌, arith}
 use Rattle.std.proofs.lemmas.List.{set-set}
 use Rattle.nxt_rows.specs.Rows.{dope_row, row_count, no_place}
-use Rattle.nxt_compact.proofs.Going.{first_full}
+use Rattle.nxt_compact.specs.Pools.{block_bytes, IsFull}
+use Rattle.nxt_compact.proofs.Laws.Going.{first_full}
 use Rattle.nxt_heap.specs.Inside.Pool.{lists_in, IsPool, IsListRow, Relists}
-use Rattle.nxt_heap.proofs.Chained.{Swaps, swapped_blocks, swapped_lists, pool_table, pool_alive, freed_free}
+use Rattle.nxt_heap.proofs.Chained.{Swaps, stands, swapped_blocks, swapped_lists, pool_table, pool_alive, freed_free}
 use Rattle.nxt_heap.proofs.ListsKept.{list_in-none}
 use Rattle.nxt_heap.proofs.OneRow.{count_kept}
 use Rattle.nxt_heap.proofs.Windows.{row_bytes-none}
@@ -44,6 +45,7 @@ swaps c =
       no_bytes = row_bytes-none (dope_row c.drop_bytes.new.pool c.drop_bytes.new.at.table c.args.row) f.count;
       count = ap (λ r. r.count) c.free_row.ensures.row;
       place = ap (λ r. r.place) c.free_row.ensures.row;
+      back = ap (λ r. r.back) c.free_row.ensures.row;
       others = c.free_row.ensures.others;
       outside = c.free_row.ensures.outside;
       chain = c.free_row.ensures.chain;
@@ -67,4 +69,12 @@ returns c =
           ∙ ap (λ xs. set xs c.args.row None) d.length.lists
           ∙ set-set (lists_in c.args.pool.now c.args.at.now.table) c.args.row _ None;
       below = λ k low. s.outside.below k 0 (omega (arith, low, d.length.base, b.is_pool.sound.above 0 first, b.is_pool.sound.place)) ∙ d.length.below k low;
+      stay = λ q full other.
+          let place = ap (λ r. r.place) (d.row.others q full.within other) in
+          let there : IsFull c.drop_bytes.new.pool c.args.at.now.table q = record {
+            within = omega (arith, full.within, count_kept c.args.pool.now c.drop_bytes.new.pool c.args.at.now.table c.args.at.now.base c.args.row no_place 0 0 c.requires.blocks.is_pool c.requires.list.above c.requires.list.within c.requires.list.alive d.row);
+            some = omega (arith, full.some, ap block_bytes (d.row.others q full.within other));
+          } in
+          stands c.drop_bytes.new.pool c.free_row.new.pool c.drop_bytes.new.at.table c.drop_bytes.new.at.base c.args.row b.is_pool s q (rw d.table there)
+          ∙ ap (λ t. (dope_row c.drop_bytes.new.pool t q).place) d.table ∙ place;
     }

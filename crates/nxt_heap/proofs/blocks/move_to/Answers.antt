@@ -2,7 +2,7 @@ use Rattle.std.proofs.Common.{◌≡◌, ◌/◌, refl, ap, ◌∙◌, arith}
 use Rattle.nxt_rows.specs.Rows.{dope_row}
 use Rattle.nxt_compact.specs.Pools.{Moves}
 use Rattle.nxt_compact.specs.Steps.{moved_to}
-use Rattle.nxt_compact.proofs.Going.{first_full}
+use Rattle.nxt_compact.proofs.Laws.Going.{first_full}
 use Rattle.nxt_heap.proofs.Begins.{table_inside}
 use Rattle.nxt_heap.proofs.AfterMoves.{total_moved}
 use Rattle.nxt_heap.proofs.IntoHole.{movable, into_pool, into_fronts, into_moved}

@@ -1,10 +1,12 @@
 use Rattle.std.proofs.Common.{◌≡◌, ◌≢◌, refl, set, sym, ap, ◌∙◌, arith}
+use Rattle.std.proofs.lemmas.Bool.{false≢true}
+use Rattle.std.proofs.lemmas.Result.{on_ok_weaker}
 use Rattle.nxt_rows.specs.Rows.{dope_row, free_rows}
-use Rattle.nxt_compact.proofs.Going.{first_full}
+use Rattle.nxt_compact.proofs.Laws.Going.{first_full}
 use Rattle.nxt_heap.specs.Lists.{empty_list}
 use Rattle.nxt_heap.specs.Inside.Pool.{row_bytes, list_in, lists_in}
-use Rattle.nxt_heap.proofs.Chained.{Swaps, swapped_blocks, swapped_lists, pool_table, taken_free}
-use Rattle.nxt_heap.proofs.FreeRows.{Front, any_free-front, with_free-free}
+use Rattle.nxt_heap.proofs.Chained.{Swaps, full_still, stands, swapped_blocks, swapped_lists, pool_table, taken_free}
+use Rattle.nxt_heap.proofs.FreeRows.{Front, any_free-full, any_free-front, with_free-free}
 use Rattle.nxt_heap.proofs.ListsKept.{list_in-some}
 use Rattle.nxt_heap.proofs.Windows.{row_bytes-free, row_bytes-none}
 use Rattle.nxt_heap.proofs.blocks.new_list.Goals as goal
@@ -28,6 +30,7 @@ swaps c =
       no_bytes = row_bytes-free (dope_row c.args.pool.now c.args.at.now.table c.in-Some.row) f.stride;
       count = ap (λ r. r.count) c.in-Some.ensures.row;
       place = ap (λ r. r.place) c.in-Some.ensures.row;
+      back = ap (λ r. r.back) c.in-Some.ensures.row;
       others = c.in-Some.ensures.others;
       outside = c.in-Some.ensures.outside;
       chain = c.in-Some.ensures.chain;
@@ -56,3 +59,26 @@ returns-in-Some-clause-ok c =
           ∙ ap (λ xs. set xs c.in-Some.row (empty_list c.args.stride)) (sym same);
       below = λ k low. s.outside.below k 0 (omega (arith, low, b.is_pool.sound.above 0 first, b.is_pool.sound.place));
     }
+
+pub returns-in-Some-clause-need : goal.returns-in-Some-clause-need
+returns-in-Some-clause-need c =
+    let p = c.requires.blocks.is_pool in
+    let old = c.args.pool.now in
+    let new = c.take_row.new.pool in
+    let table = c.args.at.now.table in
+    let base = c.args.at.now.base in
+    record {
+      stays = λ e q full. (full_still old new table base c.in-Some.row p (swaps c) q full, stands old new table base c.in-Some.row p (swaps c) q full);
+      grows = λ none. absurd (false≢true (sym none ∙ (front c).any));
+    }
+
+pub returns-in-None-clause-need : goal.returns-in-None-clause-need
+returns-in-None-clause-need c =
+    let pool = c.args.pool.now in
+    let table = c.args.at.now.table in
+    let full = any_free-full pool table c.args.at.now.base c.requires.blocks.is_pool (c.in-None.ensures.none.0 refl) in
+    let same = c.in-None.ensures.unchanged in
+    on_ok_weaker c.add_list.result (λ need. record {
+      stays = λ some. absurd (false≢true (sym full ∙ some));
+      grows = λ none. rw same at need;
+    }) c.add_list.ensures.need

@@ -1,5 +1,6 @@
 use Rattle.std.proofs.Common.{refl}
-use Rattle.nxt_compact.proofs.Going.{no_moves}
+use Rattle.nxt_compact.proofs.Laws.Going.{no_moves}
+use Rattle.nxt_heap.proofs.Needs.{takes_hole, settles}
 use Rattle.nxt_heap.proofs.Rooms.{hole_room, top_room}
 use Rattle.nxt_heap.proofs.blocks.place_new.Goals as goal
 
@@ -15,3 +16,11 @@ returns-in-None-clause-room c =
     let s = c.settle.ensures in
     rw (s.moves.base, s.moves.footprint, b.footprint_is)
     (top_room c.args.pool.now c.settle.new.pool c.args.at.now.table c.settle.new.at.table c.args.at.now.base c.args.row c.args.bytes c.settle.result b.is_pool b.word c.requires.may c.requires.empty s.compacts)
+
+pub returns-in-Some-clause-need : goal.returns-in-Some-clause-need
+returns-in-Some-clause-need c =
+    takes_hole c.args.pool.now c.args.at.now c.args.row c.args.bytes c.in-Some.place c.requires.blocks.is_pool c.requires.may.within c.requires.empty c.in-Some.ensures.some
+
+pub returns-in-None-clause-need : goal.returns-in-None-clause-need
+returns-in-None-clause-need c =
+    settles c.args.pool.now c.settle.new.pool c.args.at.now c.settle.new.at c.args.row c.args.bytes c.settle.new.at.footprint c.settle.result c.requires.blocks.is_pool c.requires.may.within c.requires.empty c.in-None.ensures.none c.settle.ensures.compacts

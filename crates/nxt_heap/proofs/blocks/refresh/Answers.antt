@@ -1,5 +1,5 @@
 use Rattle.std.proofs.Common.{arith}
-use Rattle.nxt_compact.proofs.Going.{first_full}
+use Rattle.nxt_compact.proofs.Laws.Going.{first_full}
 use Rattle.nxt_heap.proofs.blocks.refresh.Goals as goal
 
 pub last_end-requires-clause-some : goal.last_end-requires-clause-some

@@ -3,9 +3,9 @@ use Rattle.std.proofs.lemmas.Nat.{div-add-mod'}
 use Rattle.nxt_types.specs.Pool.{round4}
 use Rattle.nxt_rows.specs.Rows.{dope_row}
 use Rattle.nxt_compact.specs.Pools.{block_bytes, IsFull}
-use Rattle.nxt_compact.proofs.Going.{first_full}
-use Rattle.nxt_compact.proofs.Opening.{before_most}
-use Rattle.nxt_compact.proofs.Shifted.{bytes_of_table}
+use Rattle.nxt_compact.proofs.Laws.Going.{first_full}
+use Rattle.nxt_compact.proofs.Laws.Opening.{before_most}
+use Rattle.nxt_compact.proofs.Laws.Shifted.{bytes_of_table}
 use Rattle.nxt_heap.specs.Inside.Pool.{row_bytes, AreBlocks}
 use Rattle.nxt_heap.proofs.Begins.{table_inside}
 use Rattle.nxt_heap.proofs.Lengthened.{longer_pool, longer_block, longer_fronts, longer_last, longer_most, longer_lists}
@@ -56,8 +56,8 @@ overflow_sub-at c = let f = fits c in omega (arith, f.own)
 whole : (n m : ℕ) → n % m ≡ 0 → n / m * m ≡ n
 whole n m none = omega (arith, div-add-mod' n m, none)
 
-pub returns : goal.returns
-returns c =
+pub returns-clause-length : goal.returns-clause-length
+returns-clause-length c =
     let b = c.requires.blocks in
     let l = c.requires.list in
     let old = dope_row c.args.pool.now c.args.at.now.table c.args.row in

@@ -1,4 +1,4 @@
-use Rattle.std.proofs.Common.{◌+◌, ◌-◌, ◌/◌, sym, arith}
+use Rattle.std.proofs.Common.{◌+◌, ◌/◌, sym, arith}
 use Rattle.nxt_heap.proofs.Begins.{Found, found, fit_here, fit_behind, no_fit, table_inside}
 use Rattle.nxt_heap.proofs.fronts.first_fit.Goals as goal
 

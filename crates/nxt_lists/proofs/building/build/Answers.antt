@@ -16,10 +16,10 @@ store_joined-requires-clause-few c =
     let are = pieces_for s c.args.dest c.args.sources.now (record { sound = c.requires.sound; of_list = c.requires.of_list; named = c.requires.sources; fit = c.requires.fit }) c.requires.few in
     omega (arith, c.in-Some-count_numbers.ensures.count, are.few)
 
-pub returns-in-Some-count_numbers : goal.returns-in-Some-count_numbers
-returns-in-Some-count_numbers c d =
+pub returns-in-Some-count_numbers-clause-does : goal.returns-in-Some-count_numbers-clause-does
+returns-in-Some-count_numbers-clause-does c d =
     let vs = pieces_of c.args.space.now.vars c.args.dest c.args.sources.now in
-    given_stored c.args.space.now c.store_joined.new.space c.args.dest (list_of vs) c.store_joined.result c.store_joined.ensures d
+    given_stored c.args.space.now c.store_joined.new.space c.args.dest (list_of vs) c.store_joined.result c.store_joined.ensures.does d
 
 pub check_room-requires-clause-countable : goal.check_room-requires-clause-countable
 check_room-requires-clause-countable c =
@@ -29,8 +29,8 @@ check_room-requires-clause-countable c =
     let size = list_size s c.args.dest vs c.in_ok-found.found.count c.in_ok-found.found.size c.requires.sound c.requires.dest are (ap (λ f. f.count) c.in_ok-found.ensures) (ap (λ f. f.size) c.in_ok-found.ensures) in
     size.small
 
-pub returns-in_err-check_room : goal.returns-in_err-check_room
-returns-in_err-check_room c d =
+pub returns-in_err-check_room-clause-does : goal.returns-in_err-check_room-clause-does
+returns-in_err-check_room-clause-does c d =
     let s = c.args.space.now.vars in
     let vs = pieces_of s c.args.dest c.args.sources.now in
     let w = stored (shape_of s c.args.dest) (list_of vs) in
@@ -54,10 +54,10 @@ store-requires-clause-countable c =
     let are = pieces_for s c.args.dest c.args.sources.now (record { sound = c.requires.sound; of_list = c.requires.of_list; named = c.requires.sources; fit = c.requires.fit }) c.requires.few in
     (list_storable s c.args.dest vs c.in_ok-flat.flat c.requires.sound c.requires.dest are c.in_ok-flat.ensures).countable
 
-pub returns : goal.returns
-returns c d =
+pub returns-clause-does : goal.returns-clause-does
+returns-clause-does c d =
     let s = c.args.space.now.vars in
     let vs = pieces_of s c.args.dest c.args.sources.now in
     let are = pieces_for s c.args.dest c.args.sources.now (record { sound = c.requires.sound; of_list = c.requires.of_list; named = c.requires.sources; fit = c.requires.fit }) c.requires.few in
     let e = list_storable s c.args.dest vs c.in_ok-flat.flat c.requires.sound c.requires.dest are c.in_ok-flat.ensures in
-    spelled_given c.args.space.now c.store.new.space c.args.dest (list_of vs) c.in_ok-flat.flat c.store.result e c.store.ensures d
+    spelled_given c.args.space.now c.store.new.space c.args.dest (list_of vs) c.in_ok-flat.flat c.store.result e c.store.ensures.does d

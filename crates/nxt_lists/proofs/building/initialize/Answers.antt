@@ -62,8 +62,8 @@ check_room-requires-clause-countable c =
     in
     subst IsCountable (sym is) copied.size.small
 
-pub returns-in_err-check_room : goal.returns-in_err-check_room
-returns-in_err-check_room c d =
+pub returns-in_err-check_room-clause-does : goal.returns-in_err-check_room-clause-does
+returns-in_err-check_room-clause-does c d =
     let s = c.args.space.now.vars in
     let t = tree c.element_of.result.now in
     let same = c.element_of.ensures in
@@ -99,8 +99,8 @@ store-requires-clause-countable c =
     (list_storable s c.args.dest vs c.in_ok-flat.flat c.requires.sound c.requires.dest copied.are
     (copies_spelled c.wrap-count.result (value_of s c.args.value) c.as_slice-2.result.now c.in_ok-flat.flat again c.in_ok-flat.ensures)).countable
 
-pub returns : goal.returns
-returns c d =
+pub returns-clause-does : goal.returns-clause-does
+returns-clause-does c d =
     let s = c.args.space.now.vars in
     let t = tree c.element_of.result.now in
     let same = c.element_of.ensures in
@@ -118,5 +118,5 @@ returns c d =
     subst
     (λ k. Gives c.args.space.now c.args.dest (list_of (replicate k (value_of s c.args.value))) c.store.result c.store.new.space)
     counted
-    (spelled_given c.args.space.now c.store.new.space c.args.dest (list_of vs) c.in_ok-flat.flat c.store.result e c.store.ensures)
+    (spelled_given c.args.space.now c.store.new.space c.args.dest (list_of vs) c.in_ok-flat.flat c.store.result e c.store.ensures.does)
     d

@@ -9,8 +9,8 @@ use Rattle.nxt_operands.proofs.Laws.Stored.{number_set}
 use Rattle.nxt_operands.proofs.Laws.OneStored.{given_stored}
 use Rattle.nxt_lists.proofs.elements.array_size.Goals as goal
 
-pub returns : goal.returns
-returns c d =
+pub returns-clause-does : goal.returns-clause-does
+returns-clause-does c d =
     let s = c.args.space.now.vars in
     let v = value_of s c.args.list in
     let fits : SFits w64 c.from.result = search rules in
@@ -21,5 +21,5 @@ returns c d =
     c.args.dest
     (Num (pos (length (elements v))))
     (Ok tt)
-    (number_set c.args.space.now c.set.new.self c.args.dest (Num (pos (length (elements v)))) x c.requires.sound c.requires.number (to_z-of_z fits ∙ c.from.ensures ∙ ap pos c.length_of.ensures) c.set.ensures)
+    (number_set c.args.space.now c.set.new.self c.args.dest (Num (pos (length (elements v)))) x c.requires.sound c.requires.number (to_z-of_z fits ∙ c.from.ensures ∙ ap pos c.length_of.ensures) c.set.ensures.value)
     d

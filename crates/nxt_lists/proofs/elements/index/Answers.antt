@@ -11,8 +11,8 @@ use Rattle.nxt_lists.proofs.InnerLists.{element_stored}
 use Rattle.nxt_lists.proofs.Storable.{index_storable}
 use Rattle.nxt_lists.proofs.elements.index.Goals as goal
 
-pub returns-in-Some-Some : goal.returns-in-Some-Some
-returns-in-Some-Some c d =
+pub returns-in-Some-Some-clause-does : goal.returns-in-Some-Some-clause-does
+returns-in-Some-Some-clause-does c d =
     let s = c.args.space.now.vars in
     let xs = elements (value_of s c.args.list) in
     let number = c.in-Some-Some.ensures.found in
@@ -20,12 +20,12 @@ returns-in-Some-Some c d =
     subst
     (λ v. Gives c.args.space.now c.args.dest v (Ok tt) c.pick.new.space)
     (ap₂ (λ k z. slice_index_or xs k z) c.word_or-k.ensures (sym (ap (λ l. zero_of (element l)) numbers.shape)))
-    (given_stored c.args.space.now c.pick.new.space c.args.dest (slice_index_or xs c.word_or-k.result (Num (pos 0))) (Ok tt) (c.pick.ensures c.args.dest c.args.list number numbers))
+    (given_stored c.args.space.now c.pick.new.space c.args.dest (slice_index_or xs c.word_or-k.result (Num (pos 0))) (Ok tt) (c.pick.ensures.does c.args.dest c.args.list number numbers))
     d
 
 -- an inner list is stored as it is
-pub returns-in-Some : goal.returns-in-Some
-returns-in-Some c d =
+pub returns-in-Some-clause-does : goal.returns-in-Some-clause-does
+returns-in-Some-clause-does c d =
     let s = c.args.space.now.vars in
     let k = c.word_or-k.result in
     let xs = elements (value_of s c.args.list) in
@@ -36,7 +36,7 @@ returns-in-Some c d =
     (λ w. Gives c.args.space.now c.args.dest w c.copy_element.result c.copy_element.new.space)
     (ap₂ (λ n z. slice_index_or xs n z) c.word_or-k.ensures (sym (ap (λ l. zero_of (element l)) spots.1.shape)))
     (given_stored c.args.space.now c.copy_element.new.space c.args.dest v c.copy_element.result
-    (subst (λ w. Does {T = Unit {0}} Done (with_value s c.args.dest w) c.args.space.now c.copy_element.result c.copy_element.new.space) (sym own) (c.copy_element.ensures c.args.dest c.args.list spots.0 spots.1)))
+    (subst (λ w. Does {T = Unit {0}} Done (with_value s c.args.dest w) c.args.space.now c.copy_element.result c.copy_element.new.space) (sym own) (c.copy_element.ensures.does c.args.dest c.args.list spots.0 spots.1)))
     d
 
 pub store-requires-clause-countable : goal.store-requires-clause-countable
@@ -44,8 +44,8 @@ store-requires-clause-countable c =
     let found = c.in_ok-flat in
     (index_storable c.args.space.now.vars c.args.dest c.args.list c.word_or-k.result found.flat c.requires.sound c.requires.dest c.requires.list c.requires.of_list c.requires.fit found.ensures.within found.ensures.past).countable
 
-pub returns : goal.returns
-returns c d =
+pub returns-clause-does : goal.returns-clause-does
+returns-clause-does c d =
     let s = c.args.space.now.vars in
     let k = c.word_or-k.result in
     let found = c.in_ok-flat in
@@ -53,5 +53,5 @@ returns c d =
     subst
     (λ n. Gives c.args.space.now c.args.dest (slice_index_or (elements (value_of s c.args.list)) n (zero_of (element (shape_of s c.args.list)))) c.store.result c.store.new.space)
     c.word_or-k.ensures
-    (spelled_given c.args.space.now c.store.new.space c.args.dest (slice_index_or (elements (value_of s c.args.list)) k (zero_of (element (shape_of s c.args.list)))) found.flat c.store.result e c.store.ensures)
+    (spelled_given c.args.space.now c.store.new.space c.args.dest (slice_index_or (elements (value_of s c.args.list)) k (zero_of (element (shape_of s c.args.list)))) found.flat c.store.result e c.store.ensures.does)
     d

@@ -19,8 +19,8 @@ use Rattle.nxt_space.specs.Spots.{IsSpot, IsInnerSpot}
 use Rattle.nxt_lists.proofs.Sections.{overwritten_for}
 use Rattle.nxt_lists.proofs.elements.replace.Goals as goal
 
-pub returns-in-Some-Single : goal.returns-in-Some-Single
-returns-in-Some-Single c d =
+pub returns-in-Some-Single-clause-does : goal.returns-in-Some-Single-clause-does
+returns-in-Some-Single-clause-does c d =
     let s = c.args.space.now.vars in
     let xs = elements (value_of s c.args.list) in
     let new = value_of s c.args.new in
@@ -33,11 +33,11 @@ returns-in-Some-Single c d =
     (λ us. Gives c.args.space.now c.args.dest (list_of us) c.replace_number.result c.replace_number.new.space)
     (ap (λ n. slice_set xs n new) c.word_or-k.ensures
     ∙ sym (ap (λ b. if b then slice_set xs k new else overwritten xs k (elements new)) one))
-    (given_stored c.args.space.now c.replace_number.new.space c.args.dest (list_of (slice_set xs c.word_or-k.result new)) c.replace_number.result (c.replace_number.ensures c.args.new number))
+    (given_stored c.args.space.now c.replace_number.new.space c.args.dest (list_of (slice_set xs c.word_or-k.result new)) c.replace_number.result (c.replace_number.ensures.does c.args.new number))
     d
 
-pub returns-in-Some-Each : goal.returns-in-Some-Each
-returns-in-Some-Each c d =
+pub returns-in-Some-Each-clause-does : goal.returns-in-Some-Each-clause-does
+returns-in-Some-Each-clause-does c d =
     let s = c.args.space.now.vars in
     let xs = elements (value_of s c.args.list) in
     let new = value_of s c.args.new in
@@ -50,12 +50,12 @@ returns-in-Some-Each c d =
     (λ us. Gives c.args.space.now c.args.dest (list_of us) c.replace_numbers.result c.replace_numbers.new.space)
     (ap (λ n. overwritten xs n (elements new)) c.word_or-k.ensures
     ∙ sym (ap (λ b. if b then slice_set xs k new else overwritten xs k (elements new)) many))
-    (given_stored c.args.space.now c.replace_numbers.new.space c.args.dest (list_of (overwritten xs c.word_or-k.result (elements new))) c.replace_numbers.result (c.replace_numbers.ensures c.args.dest c.args.list c.args.new lists.0 lists.1 numbers.0))
+    (given_stored c.args.space.now c.replace_numbers.new.space c.args.dest (list_of (overwritten xs c.word_or-k.result (elements new))) c.replace_numbers.result (c.replace_numbers.ensures.does c.args.dest c.args.list c.args.new lists.0 lists.1 numbers.0))
     d
 
 -- a list of numbers takes the place of an inner list, in the list itself
-pub returns-in-Some-list_and_lists : goal.returns-in-Some-list_and_lists
-returns-in-Some-list_and_lists c d =
+pub returns-in-Some-list_and_lists-clause-does : goal.returns-in-Some-list_and_lists-clause-does
+returns-in-Some-list_and_lists-clause-does c d =
     let s = c.args.space.now.vars in
     let xs = elements (value_of s c.args.list) in
     let new = value_of s c.args.new in
@@ -71,7 +71,7 @@ returns-in-Some-list_and_lists c d =
     (ap₂ (λ i n. slice_set (elements (value_of s i)) n new) same c.word_or-k.ensures
     ∙ sym (ap (λ b. if b then slice_set xs k new else overwritten xs k (elements new)) one))
     (given_stored c.args.space.now c.put_element.new.space c.args.dest v c.put_element.result
-    (subst (λ w. Does {T = Unit {0}} Done (with_value s c.args.dest w) c.args.space.now c.put_element.result c.put_element.new.space) (sym own) (c.put_element.ensures c.args.dest c.args.new mine spots.0)))
+    (subst (λ w. Does {T = Unit {0}} Done (with_value s c.args.dest w) c.args.space.now c.put_element.result c.put_element.new.space) (sym own) (c.put_element.ensures.does c.args.dest c.args.new mine spots.0)))
     d
 
 pub store-requires-clause-countable : goal.store-requires-clause-countable
@@ -81,8 +81,8 @@ store-requires-clause-countable c =
     let are = overwritten_for s c.args.dest c.args.list c.word_or-k.result c.args.new c.requires.sound c.requires.list c.requires.new c.requires.of_list c.requires.fit c.requires.goes in
     (list_storable s c.args.dest vs c.in_ok-flat.flat c.requires.sound c.requires.dest are c.in_ok-flat.ensures).countable
 
-pub returns : goal.returns
-returns c d =
+pub returns-clause-does : goal.returns-clause-does
+returns-clause-does c d =
     let s = c.args.space.now.vars in
     let xs = elements (value_of s c.args.list) in
     let new = value_of s c.args.new in
@@ -94,5 +94,5 @@ returns c d =
     (λ us. Gives c.args.space.now c.args.dest (list_of us) c.store.result c.store.new.space)
     (sym (replaced_overwritten whole xs c.word_or-k.result new)
     ∙ ap (λ k. if whole then slice_set xs k new else overwritten xs k (elements new)) c.word_or-k.ensures)
-    (spelled_given c.args.space.now c.store.new.space c.args.dest (list_of vs) c.in_ok-flat.flat c.store.result e c.store.ensures)
+    (spelled_given c.args.space.now c.store.new.space c.args.dest (list_of vs) c.in_ok-flat.flat c.store.result e c.store.ensures.does)
     d

@@ -12,8 +12,8 @@ use Rattle.nxt_operands.proofs.Laws.OneStored.{Gives, given_stored, spelled_give
 use Rattle.nxt_lists.proofs.Sections.{section_for}
 use Rattle.nxt_lists.proofs.elements.subset.Goals as goal
 
-pub returns-in-Some : goal.returns-in-Some
-returns-in-Some c d =
+pub returns-in-Some-clause-does : goal.returns-in-Some-clause-does
+returns-in-Some-clause-does c d =
     let s = c.args.space.now.vars in
     let from = c.min-from.result in
     let to = from + c.min-count.result in
@@ -27,7 +27,7 @@ returns-in-Some c d =
     subst
     (λ us. Gives c.args.space.now c.args.dest (list_of us) c.store_section.result c.store_section.new.space)
     (is ∙ words)
-    (given_stored c.args.space.now c.store_section.new.space c.args.dest (list_of vs) c.store_section.result (c.store_section.ensures c.args.dest c.args.list lists.0 lists.1))
+    (given_stored c.args.space.now c.store_section.new.space c.args.dest (list_of vs) c.store_section.result (c.store_section.ensures.does c.args.dest c.args.list lists.0 lists.1))
     d
 
 pub store-requires-clause-countable : goal.store-requires-clause-countable
@@ -39,8 +39,8 @@ store-requires-clause-countable c =
     let are = section_for s c.args.dest c.args.list from to c.requires.sound c.requires.list c.requires.of_list c.requires.fit in
     (list_storable s c.args.dest vs c.in_ok-flat.flat c.requires.sound c.requires.dest are c.in_ok-flat.ensures).countable
 
-pub returns : goal.returns
-returns c d =
+pub returns-clause-does : goal.returns-clause-does
+returns-clause-does c d =
     let s = c.args.space.now.vars in
     let from = c.min-from.result in
     let to = from + c.min-count.result in
@@ -55,5 +55,5 @@ returns c d =
     subst
     (λ us. Gives c.args.space.now c.args.dest (list_of us) c.store.result c.store.new.space)
     (is ∙ words)
-    (spelled_given c.args.space.now c.store.new.space c.args.dest (list_of vs) c.in_ok-flat.flat c.store.result e c.store.ensures)
+    (spelled_given c.args.space.now c.store.new.space c.args.dest (list_of vs) c.in_ok-flat.flat c.store.result e c.store.ensures.does)
     d

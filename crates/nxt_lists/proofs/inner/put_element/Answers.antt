@@ -9,8 +9,8 @@ use Rattle.nxt_operands.specs.Operands.{Done}
 use Rattle.nxt_lists.proofs.InnerLists.{past_end}
 use Rattle.nxt_lists.proofs.inner.put_element.Goals as goal
 
-pub returns : goal.returns
-returns c i j lists new =
+pub returns-clause-does : goal.returns-clause-does
+returns-clause-does c i j lists new =
     let s = c.args.space.now.vars in
     let done = c.in_ok-copy_to_inner.ensures in
     elim (cases_lt c.args.k (length (elements (value_of s i)))) [

@@ -17,8 +17,8 @@ extend_list-requires-clause-small c =
     let same = ap length c.as_slice.ensures in
     omega (arith, same, bytes_counted c.in_ok-more.ensures, c.requires.few)
 
-pub returns-in_err-extend_list : goal.returns-in_err-extend_list
-returns-in_err-extend_list c =
+pub returns-in_err-extend_list-clause-does : goal.returns-in_err-extend_list-clause-does
+returns-in_err-extend_list-clause-does c =
     let s = c.args.space.now.vars in
     let i = c.args.dest in
     let to = c.args.to in
@@ -31,16 +31,16 @@ returns-in_err-extend_list c =
     (λ w. Does {T = Unit {0}} Done (with_value s i w) c.args.space.now (Err fault) c.extend_list.new.self)
     (ap (λ bytes. list_of (elements v ++ elements (numbers_in_bytes to.kind bytes))) c.as_slice.ensures
     ∙ list_extended s i to c.in_ok-more.more us c.requires.sound c.requires.dest c.in_ok-more.ensures)
-    (c.in_err-extend_list.ensures i c.requires.dest))
+    (c.in_err-extend_list.ensures.becomes i c.requires.dest))
 
-pub returns : goal.returns
-returns c =
+pub returns-clause-does : goal.returns-clause-does
+returns-clause-does c =
     let s = c.args.space.now.vars in
     let i = c.args.dest in
     let to = c.args.to in
     let v = value_of s i in
     let us = pieces_of s i c.args.sources.now in
-    let e = c.in_ok-extend_list.ensures i c.requires.dest in
+    let e = c.in_ok-extend_list.ensures.becomes i c.requires.dest in
     subst
     (λ w. Does {T = Unit {0}} Done (with_value s i w) c.args.space.now (Ok tt) c.extend_list.new.self)
     (ap (λ bytes. list_of (elements v ++ elements (numbers_in_bytes to.kind bytes))) c.as_slice.ensures

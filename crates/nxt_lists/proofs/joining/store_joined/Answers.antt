@@ -11,8 +11,8 @@ use Rattle.nxt_lists.proofs.JoinedNumbers.{list_then, rest_few}
 use Rattle.nxt_lists.proofs.NumberLists.{is_room, room_few, bytes_counted}
 use Rattle.nxt_lists.proofs.joining.store_joined.Goals as goal
 
-pub returns-in_err-check_room : goal.returns-in_err-check_room
-returns-in_err-check_room c =
+pub returns-in_err-check_room-clause-does : goal.returns-in_err-check_room-clause-does
+returns-in_err-check_room-clause-does c =
     let s = c.args.space.now.vars in
     let i = c.args.dest in
     let vs = pieces_of s i c.args.sources.now in

@@ -23,8 +23,8 @@ store_numbers-requires-clause-whole c =
     let three = c.in_ok-push_section-3.ensures.numbers j (front ++ middle) c.requires.from.1 (subst (λ q. AreStored q c.push_section-2.new.into (front ++ middle)) (sym other) two) in
     subst (λ q. length c.push_section-3.new.into % leaf_size q ≡ 0) c.requires.kind three.whole
 
-pub returns : goal.returns
-returns c i j m mine theirs others =
+pub returns-clause-does : goal.returns-clause-does
+returns-clause-does c i j m mine theirs others =
     let s = c.args.space.now.vars in
     let k = c.args.spots.1.kind in
     let xs = elements (value_of s j) in
@@ -41,4 +41,4 @@ returns c i j m mine theirs others =
     let three = c.in_ok-push_section-3.ensures.numbers j (front ++ middle) theirs (subst (λ q. AreStored q c.push_section-2.new.into (front ++ middle)) (sym other) two) in
     let all = subst (λ q. AreStored q c.push_section-3.new.into (front ++ middle ++ back)) c.requires.kind three in
     let joined = overwritten_joined xs ys c.args.k long from c.count.result count (c.count-length.ensures j theirs) c.min-from.ensures (c.count.ensures m others) c.min-count.ensures in
-    c.store_numbers.ensures i (overwritten xs c.args.k ys) mine (subst (AreStored c.args.spots.0.kind c.push_section-3.new.into) joined all)
+    c.store_numbers.ensures.does i (overwritten xs c.args.k ys) mine (subst (AreStored c.args.spots.0.kind c.push_section-3.new.into) joined all)

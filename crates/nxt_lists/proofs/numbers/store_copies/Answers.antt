@@ -9,8 +9,8 @@ use Rattle.nxt_lists.specs.InBytes.{AreStored}
 use Rattle.nxt_lists.proofs.NumberLists.{is_room, room_few, bytes_counted}
 use Rattle.nxt_lists.proofs.numbers.store_copies.Goals as goal
 
-pub returns-in_err-check_room : goal.returns-in_err-check_room
-returns-in_err-check_room c j is =
+pub returns-in_err-check_room-clause-does : goal.returns-in_err-check_room-clause-does
+returns-in_err-check_room-clause-does c j is =
     let s = c.args.space.now.vars in
     let i = c.args.dest in
     let vs = replicate c.args.count (value_of s j) in

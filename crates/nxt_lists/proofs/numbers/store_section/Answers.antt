@@ -14,9 +14,9 @@ store_numbers-requires-clause-whole c =
     let e = c.in_ok-push_section.ensures.numbers c.requires.list.0 [] c.requires.list.1 (none_stored k c.new-bytes.result c.new-bytes.ensures) in
     subst (λ j. length c.push_section.new.into % leaf_size j ≡ 0) c.requires.kind e.whole
 
-pub returns : goal.returns
-returns c i j mine theirs =
+pub returns-clause-does : goal.returns-clause-does
+returns-clause-does c i j mine theirs =
     let k = c.args.list.kind in
     let vs = slice_range (elements (value_of c.args.space.now.vars j)) c.args.from c.args.end in
     let e = c.in_ok-push_section.ensures.numbers j [] theirs (none_stored k c.new-bytes.result c.new-bytes.ensures) in
-    c.store_numbers.ensures i vs mine (subst (λ l. AreStored l c.push_section.new.into vs) c.requires.kind e)
+    c.store_numbers.ensures.does i vs mine (subst (λ l. AreStored l c.push_section.new.into vs) c.requires.kind e)

@@ -156,9 +156,9 @@ returns-in-Gettick-clause-done c =
     let now = to_z_pos w64 c.args.clock.now (let small = c.requires.clock in omega (arith, small)) in
     number_done p.space c.set.new.self d c.args.out.now.lines t (statement_of i words) i.a [] (pos c.args.clock.now) c.is_sound.ensures
     (tick_fits s i words c.in-Gettick.is (fit_there c.args.program.now c.requires.program c.requires.at.0 c.args.placed c.requires.at.1)) (gettick_refers s i words d t c.in-Gettick.is) (gettick_effect s i words d t c.in-Gettick.is)
-    (c.set.ensures ∙ ap (λ z. record s { values = with_value s i.a (stored (shape_of s i.a) (Num z)) }) now)
+    (c.set.ensures.value ∙ ap (λ z. record s { values = with_value s i.a (stored (shape_of s i.a) (Num z)) }) now)
 
 pub returns-in-Gettick-clause-program : goal.returns-in-Gettick-clause-program
 returns-in-Gettick-clause-program c =
     let s = c.args.program.now.space.vars in
-    program_kept c.args.program.now c.set.new.self (kept_by s c.set.new.self.vars c.args.placed.instr.a _ c.set.ensures) c.requires.program
+    program_kept c.args.program.now c.set.new.self (kept_by s c.set.new.self.vars c.args.placed.instr.a _ c.set.ensures.value) c.requires.program

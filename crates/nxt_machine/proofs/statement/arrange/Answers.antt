@@ -32,7 +32,7 @@ returns-in-Ok-clause-did c d lines t =
     let x = c.args.placed in
     list_ran p.space c.run_array.new.space p.code.words d lines t c.args.place x.word x.instr c.requires.on_lists
     (subst (λ ws. Does {T = Unit {0}} Done (values_after p.space.vars x.instr ws d t) p.space (Ok tt) c.run_array.new.space)
-    c.words.ensures (c.in-Ok.ensures d t))
+    c.words.ensures (c.in-Ok.ensures.does d t))
 
 pub returns-in-Err-PoolPassed-clause-did : goal.returns-in-Err-PoolPassed-clause-did
 returns-in-Err-PoolPassed-clause-did c d lines t =
@@ -50,25 +50,25 @@ returns-in-Err-PoolPassed-clause-did c d lines t =
     (subst
     (λ e. Does {T = Unit {0}} Done (values_after p.space.vars x.instr c.words.result.now d t) p.space (Err e) c.run_array.new.space)
     c.in-Err-PoolPassed.field-0-is
-    (c.in-Err-PoolPassed.ensures d t))))
+    (c.in-Err-PoolPassed.ensures.does d t))))
 
 pub returns-in-Ok-clause-program : goal.returns-in-Ok-clause-program
 returns-in-Ok-clause-program c =
-    still_program _ _ c.args.program.now c.run_array.new.space c.run_array.result (c.run_array.ensures at_start origin) c.requires.program
+    still_program _ _ c.args.program.now c.run_array.new.space c.run_array.result (c.run_array.ensures.does at_start origin) c.requires.program
 
 pub returns-in-Ok-clause-image : goal.returns-in-Ok-clause-image
-returns-in-Ok-clause-image c = same_image _ _ c.args.program.now c.run_array.new.space c.run_array.result (c.run_array.ensures at_start origin)
+returns-in-Ok-clause-image c = same_image _ _ c.args.program.now c.run_array.new.space c.run_array.result (c.run_array.ensures.does at_start origin)
 
 pub returns-in-Err-PoolPassed-clause-program : goal.returns-in-Err-PoolPassed-clause-program
 returns-in-Err-PoolPassed-clause-program c =
-    still_program _ _ c.args.program.now c.run_array.new.space c.run_array.result (c.run_array.ensures at_start origin) c.requires.program
+    still_program _ _ c.args.program.now c.run_array.new.space c.run_array.result (c.run_array.ensures.does at_start origin) c.requires.program
 
 pub returns-in-Err-PoolPassed-clause-image : goal.returns-in-Err-PoolPassed-clause-image
-returns-in-Err-PoolPassed-clause-image c = same_image _ _ c.args.program.now c.run_array.new.space c.run_array.result (c.run_array.ensures at_start origin)
+returns-in-Err-PoolPassed-clause-image c = same_image _ _ c.args.program.now c.run_array.new.space c.run_array.result (c.run_array.ensures.does at_start origin)
 
 pub returns-in-Err-NoMemory-clause-program : goal.returns-in-Err-NoMemory-clause-program
 returns-in-Err-NoMemory-clause-program c =
-    still_program _ _ c.args.program.now c.run_array.new.space c.run_array.result (c.run_array.ensures at_start origin) c.requires.program
+    still_program _ _ c.args.program.now c.run_array.new.space c.run_array.result (c.run_array.ensures.does at_start origin) c.requires.program
 
 pub returns-in-Err-NoMemory-clause-image : goal.returns-in-Err-NoMemory-clause-image
-returns-in-Err-NoMemory-clause-image c = same_image _ _ c.args.program.now c.run_array.new.space c.run_array.result (c.run_array.ensures at_start origin)
+returns-in-Err-NoMemory-clause-image c = same_image _ _ c.args.program.now c.run_array.new.space c.run_array.result (c.run_array.ensures.does at_start origin)

@@ -28,10 +28,10 @@ returns-in-Ok-clause-did c =
     let p = c.args.program.now in
     let x = c.args.placed in
     call_ran p.space c.syscall.new.space p.code.words c.args.place x.word (clock_of c.args.clock) x.instr c.args.io.now c.syscall.new.io c.args.out.now c.syscall.new.out c.requires.call
-    (is_call c.args.program.now c.requires.program c.args.place c.args.placed c.requires.at c.requires.call).cluster.named c.in-Ok.ensures
+    (is_call c.args.program.now c.requires.program c.args.place c.args.placed c.requires.at c.requires.call).cluster.named c.in-Ok.ensures.calls
 
 pub returns-in-Ok-clause-program : goal.returns-in-Ok-clause-program
-returns-in-Ok-clause-program c = still_program Done _ c.args.program.now c.syscall.new.space (Ok tt) c.in-Ok.ensures.0 c.requires.program
+returns-in-Ok-clause-program c = still_program Done _ c.args.program.now c.syscall.new.space (Ok tt) c.in-Ok.ensures.calls.0 c.requires.program
 
 pub returns-in-Err-PoolPassed-clause-did : goal.returns-in-Err-PoolPassed-clause-did
 returns-in-Err-PoolPassed-clause-did c =
@@ -48,4 +48,4 @@ returns-in-Err-PoolPassed-clause-did c =
     (subst
     (λ e. Calls x.instr.a x.instr.b t p.space c.args.io.now c.args.out.now (Err e) c.syscall.new.space c.syscall.new.io c.syscall.new.out)
     c.in-Err-PoolPassed.field-0-is
-    c.in-Err-PoolPassed.ensures))
+    c.in-Err-PoolPassed.ensures.calls))

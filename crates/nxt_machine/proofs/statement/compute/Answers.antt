@@ -32,13 +32,13 @@ pub returns-in-Ok-Fall-clause-did : goal.returns-in-Ok-Fall-clause-did
 returns-in-Ok-Fall-clause-did c d lines t =
     let p = c.args.program.now in
     fell p.space c.run_op.new.space p.code.words d lines t c.args.place c.args.placed.word c.args.placed.instr c.requires.computes
-    (let g = c.in-Ok-Fall.ensures d t in (g.0, g.1, sym c.in-Ok-Fall.field-0-is ∙ g.2))
+    (let g = c.in-Ok-Fall.ensures.does d t in (g.0, g.1, sym c.in-Ok-Fall.field-0-is ∙ g.2))
 
 pub returns-in-Ok-Jump-clause-did : goal.returns-in-Ok-Jump-clause-did
 returns-in-Ok-Jump-clause-did c d lines t =
     let p = c.args.program.now in
     let offset = c.in-Ok-Jump.offset in
-    let told = c.in-Ok-Jump.ensures d t in
+    let told = c.in-Ok-Jump.ensures.does d t in
     let next = sym c.in-Ok-Jump.field-0-is ∙ told.2 in
     let fits : mag offset < 2 ^ 31 = search rules in
     let word =
@@ -62,32 +62,32 @@ returns-in-Err-PoolPassed-clause-did c d lines t =
     (subst
     (λ e. Tells p.space c.run_op.new.space p.code.words d lines t c.args.place c.args.placed.word c.args.placed.instr c.requires.computes (Err e))
     c.in-Err-PoolPassed.field-0-is
-    (c.in-Err-PoolPassed.ensures d t)))
+    (c.in-Err-PoolPassed.ensures.does d t)))
 
 pub returns-in-Ok-Fall-clause-program : goal.returns-in-Ok-Fall-clause-program
 returns-in-Ok-Fall-clause-program c =
-    still_program _ _ c.args.program.now c.run_op.new.space c.run_op.result (c.run_op.ensures at_start origin) c.requires.program
+    still_program _ _ c.args.program.now c.run_op.new.space c.run_op.result (c.run_op.ensures.does at_start origin) c.requires.program
 
 pub returns-in-Ok-Fall-clause-image : goal.returns-in-Ok-Fall-clause-image
-returns-in-Ok-Fall-clause-image c = same_image _ _ c.args.program.now c.run_op.new.space c.run_op.result (c.run_op.ensures at_start origin)
+returns-in-Ok-Fall-clause-image c = same_image _ _ c.args.program.now c.run_op.new.space c.run_op.result (c.run_op.ensures.does at_start origin)
 
 pub returns-in-Ok-Jump-clause-program : goal.returns-in-Ok-Jump-clause-program
 returns-in-Ok-Jump-clause-program c =
-    still_program _ _ c.args.program.now c.run_op.new.space c.run_op.result (c.run_op.ensures at_start origin) c.requires.program
+    still_program _ _ c.args.program.now c.run_op.new.space c.run_op.result (c.run_op.ensures.does at_start origin) c.requires.program
 
 pub returns-in-Ok-Jump-clause-image : goal.returns-in-Ok-Jump-clause-image
-returns-in-Ok-Jump-clause-image c = same_image _ _ c.args.program.now c.run_op.new.space c.run_op.result (c.run_op.ensures at_start origin)
+returns-in-Ok-Jump-clause-image c = same_image _ _ c.args.program.now c.run_op.new.space c.run_op.result (c.run_op.ensures.does at_start origin)
 
 pub returns-in-Err-PoolPassed-clause-program : goal.returns-in-Err-PoolPassed-clause-program
 returns-in-Err-PoolPassed-clause-program c =
-    still_program _ _ c.args.program.now c.run_op.new.space c.run_op.result (c.run_op.ensures at_start origin) c.requires.program
+    still_program _ _ c.args.program.now c.run_op.new.space c.run_op.result (c.run_op.ensures.does at_start origin) c.requires.program
 
 pub returns-in-Err-PoolPassed-clause-image : goal.returns-in-Err-PoolPassed-clause-image
-returns-in-Err-PoolPassed-clause-image c = same_image _ _ c.args.program.now c.run_op.new.space c.run_op.result (c.run_op.ensures at_start origin)
+returns-in-Err-PoolPassed-clause-image c = same_image _ _ c.args.program.now c.run_op.new.space c.run_op.result (c.run_op.ensures.does at_start origin)
 
 pub returns-in-Err-NoMemory-clause-program : goal.returns-in-Err-NoMemory-clause-program
 returns-in-Err-NoMemory-clause-program c =
-    still_program _ _ c.args.program.now c.run_op.new.space c.run_op.result (c.run_op.ensures at_start origin) c.requires.program
+    still_program _ _ c.args.program.now c.run_op.new.space c.run_op.result (c.run_op.ensures.does at_start origin) c.requires.program
 
 pub returns-in-Err-NoMemory-clause-image : goal.returns-in-Err-NoMemory-clause-image
-returns-in-Err-NoMemory-clause-image c = same_image _ _ c.args.program.now c.run_op.new.space c.run_op.result (c.run_op.ensures at_start origin)
+returns-in-Err-NoMemory-clause-image c = same_image _ _ c.args.program.now c.run_op.new.space c.run_op.result (c.run_op.ensures.does at_start origin)

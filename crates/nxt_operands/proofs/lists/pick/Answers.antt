@@ -8,12 +8,12 @@ use Rattle.nxt_space.proofs.Laws.Words.{stored_word}
 use Rattle.nxt_operands.proofs.Laws.Stored.{number_set}
 use Rattle.nxt_operands.proofs.lists.pick.Goals as goal
 
-pub returns : goal.returns
-returns c i j spot list =
+pub returns-clause-does : goal.returns-clause-does
+returns-clause-does c i j spot list =
     let old = c.args.space.now in
     let v = slice_index_or (elements (value_of old.vars j)) c.args.k (Num (pos 0)) in
     let here = ap is_number spot.shape in
     number_set old c.set_word.new.self i v (number v) c.requires.sound here refl
-    (c.set_word.ensures i spot
+    (c.set_word.ensures.value i spot
     ∙ ap (λ w. record old.vars { values = with_value old.vars i (stored (shape_of old.vars i) (Num (pos w))) }) (c.element-word.ensures j list)
     ∙ ap (λ u. record old.vars { values = with_value old.vars i u }) (stored_word (shape_of old.vars i) (number v) here))

@@ -7,8 +7,8 @@ use Rattle.nxt_space.proofs.Laws.Words.{stored_word}
 use Rattle.nxt_operands.proofs.Laws.InPlace.{element_put}
 use Rattle.nxt_operands.proofs.lists.put.Goals as goal
 
-pub returns : goal.returns
-returns c i j list spot =
+pub returns-clause-does : goal.returns-clause-does
+returns-clause-does c i j list spot =
     let old = c.args.space.now in
     let v = value_of old.vars j in
     let k = c.args.list.kind in

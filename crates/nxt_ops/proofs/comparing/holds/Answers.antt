@@ -1,5 +1,5 @@
 -- By their shapes both are lists of numbers.
-use Rattle.std.proofs.Common.{rules, ◌≡◌, ℤ, w64, refl, ap₂, ◌∙◌}
+use Rattle.std.proofs.Common.{rules, ℤ, w64, refl, ap₂, ◌∙◌}
 use Rattle.std.proofs.Math.Facts.{to_z-of_z}
 use mir.Val.{SFits}
 use Rattle.nxt_types.specs.Arithmetic.{compares}

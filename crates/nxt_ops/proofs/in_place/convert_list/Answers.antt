@@ -8,12 +8,12 @@ use Rattle.nxt_ops.specs.Passes.{words_of}
 use Rattle.nxt_ops.proofs.ByWords.{same_by_words}
 use Rattle.nxt_ops.proofs.in_place.convert_list.Goals as goal
 
-pub returns : goal.returns
-returns c i j mine theirs =
+pub returns-clause-does : goal.returns-clause-does
+returns-clause-does c i j mine theirs =
     let s = c.args.space.now.vars in
     let v = value_of s j in
     let words = c.deref.ensures.value ∙ c.in_ok-words.ensures.words ∙ ap (λ k. words_of (numbers_in_bytes k c.bytes.result.now)) c.kind.ensures ∙ ap words_of (sym (c.bytes.ensures.value j theirs)) in
     subst
     (λ u. Does Done (with_value s i u) c.args.space.now c.store_words.result c.store_words.new.space)
     (same_by_words s i c.args.to v c.deref.result.now mine words)
-    (c.store_words.ensures i mine)
+    (c.store_words.ensures.does i mine)

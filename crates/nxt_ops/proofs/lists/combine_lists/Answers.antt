@@ -25,16 +25,16 @@ pub store-requires-clause-countable : goal.store-requires-clause-countable
 store-requires-clause-countable c =
     (two_storable c.args.space.now.vars c.args.operator c.args.dest c.args.x c.args.y c.either_has_signed_elements-signed.result c.in_ok-flat.flat c.requires.sound c.requires.dest c.requires.x c.requires.y c.requires.list c.requires.fit c.either_has_signed_elements-signed.ensures c.in_ok-flat.ensures).countable
 
-pub returns : goal.returns
-returns c =
+pub returns-clause-does : goal.returns-clause-does
+returns-clause-does c =
     let s = c.args.space.now.vars in
     let v = value_of_two c.args.operator (shape_of s c.args.dest) (given s c.args.x) (given s c.args.y) in
     let e = two_storable s c.args.operator c.args.dest c.args.x c.args.y c.either_has_signed_elements-signed.result c.in_ok-flat.flat c.requires.sound c.requires.dest c.requires.x c.requires.y c.requires.list c.requires.fit c.either_has_signed_elements-signed.ensures c.in_ok-flat.ensures in
-    spelled_stored c.args.space.now c.store.new.space c.args.dest v c.in_ok-flat.flat c.store.result e c.store.ensures
+    spelled_stored c.args.space.now c.store.new.space c.args.dest v c.in_ok-flat.flat c.store.result e c.store.ensures.does
 
 -- where the list stands in place, and the values do
-pub returns-in-Some-Some-Some : goal.returns-in-Some-Some-Some
-returns-in-Some-Some-Some c =
+pub returns-in-Some-Some-Some-clause-does : goal.returns-in-Some-Some-Some-clause-does
+returns-in-Some-Some-Some-clause-does c =
     let s = c.args.space.now.vars in
     let dest = c.args.dest in
     let is = c.in-Some-Some-Some in
@@ -44,4 +44,4 @@ returns-in-Some-Some-Some c =
     subst
     (λ v. Does Done (with_value s dest (stored (shape_of s dest) v)) c.args.space.now c.store_words.result c.store_words.new.space)
     (ap list_of_words c.deref.ensures.value ∙ e)
-    (c.store_words.ensures dest mine)
+    (c.store_words.ensures.does dest mine)

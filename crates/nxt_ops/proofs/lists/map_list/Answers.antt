@@ -23,16 +23,16 @@ pub store-requires-clause-countable : goal.store-requires-clause-countable
 store-requires-clause-countable c =
     (one_storable c.args.space.now.vars c.args.operator c.args.dest c.args.x c.has_signed_elements-signed.result c.in_ok-flat.flat c.requires.sound c.requires.dest c.requires.x c.requires.list c.requires.fit c.has_signed_elements-signed.ensures c.in_ok-flat.ensures).countable
 
-pub returns : goal.returns
-returns c =
+pub returns-clause-does : goal.returns-clause-does
+returns-clause-does c =
     let s = c.args.space.now.vars in
     let v = value_of_one c.args.operator (shape_of s c.args.dest) (given s c.args.x) in
     let e = one_storable s c.args.operator c.args.dest c.args.x c.has_signed_elements-signed.result c.in_ok-flat.flat c.requires.sound c.requires.dest c.requires.x c.requires.list c.requires.fit c.has_signed_elements-signed.ensures c.in_ok-flat.ensures in
-    spelled_stored c.args.space.now c.store.new.space c.args.dest v c.in_ok-flat.flat c.store.result e c.store.ensures
+    spelled_stored c.args.space.now c.store.new.space c.args.dest v c.in_ok-flat.flat c.store.result e c.store.ensures.does
 
 -- where both stand one behind another
-pub returns-in-Some : goal.returns-in-Some
-returns-in-Some c =
+pub returns-in-Some-clause-does : goal.returns-in-Some-clause-does
+returns-in-Some-clause-does c =
     let s = c.args.space.now.vars in
     let dest = c.args.dest in
     let is = c.in-Some in
@@ -43,4 +43,4 @@ returns-in-Some c =
     subst
     (λ v. Does Done (with_value s dest (stored (shape_of s dest) v)) c.args.space.now c.store_words.result c.store_words.new.space)
     (ap list_of_words c.deref.ensures.value ∙ e)
-    (c.store_words.ensures dest mine)
+    (c.store_words.ensures.does dest mine)

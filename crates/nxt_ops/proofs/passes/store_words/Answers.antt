@@ -11,8 +11,8 @@ use Rattle.nxt_ops.specs.Passes.{AreWritten, list_of_words}
 use Rattle.nxt_ops.proofs.Written.{written_stored}
 use Rattle.nxt_ops.proofs.passes.store_words.Goals as goal
 
-pub returns-in_err-set_list : goal.returns-in_err-set_list
-returns-in_err-set_list c i mine =
+pub returns-in_err-set_list-clause-does : goal.returns-in_err-set_list-clause-does
+returns-in_err-set_list-clause-does c i mine =
     let s = c.args.space.now.vars in
     let ws = c.args.words.now in
     let fault = PoolPassed c.in_err-set_list.field-0.0.0 in
@@ -21,13 +21,13 @@ returns-in_err-set_list c i mine =
     (subst
     (λ w. Does {T = Unit {0}} Done (with_value s i w) c.args.space.now (Err fault) c.set_list.new.self)
     (ap (numbers_in_bytes c.args.to.kind) c.as_slice.ensures.value ∙ written_stored s i c.args.to c.in_ok-bytes.bytes.items ws mine are)
-    (c.in_err-set_list.ensures i mine))
+    (c.in_err-set_list.ensures.becomes i mine))
 
-pub returns : goal.returns
-returns c i mine =
+pub returns-clause-does : goal.returns-clause-does
+returns-clause-does c i mine =
     let s = c.args.space.now.vars in
     let ws = c.args.words.now in
-    let e = c.in_ok-set_list.ensures i mine in
+    let e = c.in_ok-set_list.ensures.becomes i mine in
     let are = subst (λ k. AreWritten k c.in_ok-bytes.bytes.items ws) c.kind.ensures c.in_ok-bytes.ensures in
     subst
     (λ w. Does {T = Unit {0}} Done (with_value s i w) c.args.space.now (Ok tt) c.set_list.new.self)

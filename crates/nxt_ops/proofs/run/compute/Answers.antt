@@ -37,13 +37,13 @@ combine_lists-requires-clause-fit c =
     let i = c.args.i.now in
     (two_fit s i c.in-Some.operator (sym c.two_of.ensures ∙ c.in-Some.is) c.requires.fit).asked
 
-pub returns-in-Some : goal.returns-in-Some
-returns-in-Some c d t =
+pub returns-in-Some-clause-does : goal.returns-in-Some-clause-does
+returns-in-Some-clause-does c d t =
     let s = c.args.space.now.vars in
     let i = c.args.i.now in
     let o = c.in-Some.operator in
     let is = sym c.two_of.ensures ∙ c.in-Some.is in
-    subst (λ v. Does Done v c.args.space.now c.combine_lists.result c.combine_lists.new.space) (sym (two_means s i d t o is (two_fit s i o is c.requires.fit))) c.combine_lists.ensures
+    subst (λ v. Does Done v c.args.space.now c.combine_lists.result c.combine_lists.new.space) (sym (two_means s i d t o is (two_fit s i o is c.requires.fit))) c.combine_lists.ensures.does
 
 -- ---- comparisons of lists
 
@@ -75,8 +75,8 @@ store_comparison-requires-clause-list c = (compared c).list
 pub store_comparison-requires-clause-fit : goal.store_comparison-requires-clause-fit
 store_comparison-requires-clause-fit c = (compared c).alike
 
-pub returns-then-is_number : goal.returns-then-is_number
-returns-then-is_number c d t =
+pub returns-then-is_number-clause-does : goal.returns-then-is_number-clause-does
+returns-then-is_number-clause-does c d t =
     let s = c.args.space.now.vars in
     let i = c.args.i.now in
     let o = c.in-Some.operator in
@@ -87,7 +87,7 @@ returns-then-is_number c d t =
     let value = compared_value o i.cmp (shape_of s i.a) (given s i.b) (given s i.c) lists.operator number in
     subst (λ v. Does Done v c.args.space.now c.store_comparison.result c.store_comparison.new.space)
     (sym (two_means s i d t o is fit ∙ ap (λ v. with_value s i.a (stored (shape_of s i.a) v)) value))
-    c.store_comparison.ensures
+    c.store_comparison.ensures.does
 
 -- ---- one value
 
@@ -123,13 +123,13 @@ map_list-requires-clause-list c =
     let is = sym c.one_of.ensures ∙ c.in-Some-one_of.is in
     change_of_list s i o is (one_fit s i o is c.requires.fit).asked_second c.requires.lists
 
-pub returns-in-Some-one_of : goal.returns-in-Some-one_of
-returns-in-Some-one_of c d t =
+pub returns-in-Some-one_of-clause-does : goal.returns-in-Some-one_of-clause-does
+returns-in-Some-one_of-clause-does c d t =
     let s = c.args.space.now.vars in
     let i = c.args.i.now in
     let o = c.in-Some-one_of.operator in
     let is = sym c.one_of.ensures ∙ c.in-Some-one_of.is in
-    subst (λ v. Does Done v c.args.space.now c.map_list.result c.map_list.new.space) (sym (one_means s i d t o is (one_fit s i o is c.requires.fit))) c.map_list.ensures
+    subst (λ v. Does Done v c.args.space.now c.map_list.result c.map_list.new.space) (sym (one_means s i d t o is (one_fit s i o is c.requires.fit))) c.map_list.ensures.does
 
 -- ---- moves
 
@@ -149,12 +149,12 @@ copy-requires-clause-source c = named_some c.args.space.now.vars c.args.i.now.b 
 pub copy-requires-clause-fit : goal.copy-requires-clause-fit
 copy-requires-clause-fit c = (mov_fit c.args.space.now.vars c.args.i.now (is_mov c) c.requires.fit).asked_second
 
-pub returns : goal.returns
-returns c d t =
+pub returns-clause-does : goal.returns-clause-does
+returns-clause-does c d t =
     let s = c.args.space.now.vars in
     let i = c.args.i.now in
     let mov =
     moves s i c.requires.runs c.requires.stores (sym c.two_of.ensures ∙ c.in_default.is) (sym c.one_of.ensures ∙ c.in_default-one_of.is)
     (λ set. (set_fit s i set c.requires.fit).has) c.requires.lists in
     let fit = mov_fit s i mov c.requires.fit in
-    subst (λ v. Does Done v c.args.space.now c.copy.result c.copy.new.space) (sym (mov_means s i d t mov fit.first fit.second)) c.copy.ensures
+    subst (λ v. Does Done v c.args.space.now c.copy.result c.copy.new.space) (sym (mov_means s i d t mov fit.first fit.second)) c.copy.ensures.does

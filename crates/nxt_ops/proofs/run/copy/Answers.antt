@@ -10,8 +10,8 @@ use Rattle.nxt_operands.proofs.Laws.Stored.{copy_storable, spelled_stored}
 use Rattle.nxt_ops.proofs.run.copy.Goals as goal
 
 -- a list of the same kind is stored as it is
-pub returns-in_err-copy_list : goal.returns-in_err-copy_list
-returns-in_err-copy_list c =
+pub returns-in_err-copy_list-clause-does : goal.returns-in_err-copy_list-clause-does
+returns-in_err-copy_list-clause-does c =
     let s = c.args.space.now in
     let is = c.in-Some.ensures.found in
     let same = list_stored s.vars c.args.dest c.args.source c.in-Some.to c.in-Some.from c.requires.sound is.0 is.1 is.2 in
@@ -19,14 +19,14 @@ returns-in_err-copy_list c =
     (λ v. Does Done (with_value s.vars c.args.dest v) s c.from_residual.result c.copy_list.new.self)
     (sym same)
     (passed_on Done Done (with_value s.vars c.args.dest (value_of s.vars c.args.source)) s c.copy_list.new.self (PoolPassed c.in_err-copy_list.field-0.0.0) c.from_residual.result c.from_residual.ensures.1
-    (c.in_err-copy_list.ensures c.args.dest c.args.source is.0 is.1))
+    (c.in_err-copy_list.ensures.becomes c.args.dest c.args.source is.0 is.1))
 
-pub returns-in-Some : goal.returns-in-Some
-returns-in-Some c =
+pub returns-in-Some-clause-does : goal.returns-in-Some-clause-does
+returns-in-Some-clause-does c =
     let s = c.args.space.now in
     let is = c.in-Some.ensures.found in
     let same = list_stored s.vars c.args.dest c.args.source c.in-Some.to c.in-Some.from c.requires.sound is.0 is.1 is.2 in
-    let done = c.in_ok-copy_list.ensures c.args.dest c.args.source is.0 is.1 in
+    let done = c.in_ok-copy_list.ensures.becomes c.args.dest c.args.source is.0 is.1 in
     subst
     (λ v. Does {T = Unit {0}} Done (with_value s.vars c.args.dest v) s (Ok tt) c.copy_list.new.self)
     (sym same)
@@ -36,8 +36,8 @@ pub store-requires-clause-countable : goal.store-requires-clause-countable
 store-requires-clause-countable c =
     (copy_storable c.args.space.now.vars c.args.dest c.args.source c.in_ok-flat.flat c.requires.sound c.requires.dest c.requires.source c.requires.fit c.in_ok-flat.ensures).countable
 
-pub returns : goal.returns
-returns c =
+pub returns-clause-does : goal.returns-clause-does
+returns-clause-does c =
     let s = c.args.space.now.vars in
     let e = copy_storable s c.args.dest c.args.source c.in_ok-flat.flat c.requires.sound c.requires.dest c.requires.source c.requires.fit c.in_ok-flat.ensures in
-    spelled_stored c.args.space.now c.store.new.space c.args.dest (value_of s c.args.source) c.in_ok-flat.flat c.store.result e c.store.ensures
+    spelled_stored c.args.space.now c.store.new.space c.args.dest (value_of s c.args.source) c.in_ok-flat.flat c.store.result e c.store.ensures.does

@@ -1,11 +1,12 @@
 -- Each statement does what it means, and goes on where it should.
-use Rattle.std.proofs.Common.{rules, if◌then◌else◌, Bool, Err, IsSome, ◌≡◌, ◌≢◌, ◌==◌, ◌+◌, true, false, refl, sym, ◌∙◌, ap, subst, Ok}
+use Rattle.std.proofs.Common.{rules, if◌then◌else◌, Bool, Err, IsSome, ◌≡◌, ◌≢◌, ◌==◌, ◌+◌, true, false, refl, sym, ◌∙◌, ap, subst, Ok, ◌∷◌, []}
 use denote.Enum.Bare.{same_true, sameb}
 use Rattle.nxt_types.specs.contracts.instr.Op.{the_type}
 use Rattle.nxt_types.specs.declared.instr.Op.TheVariants as ops
 use Rattle.nxt_types.specs.OperandRules.{AreFit, is_plain, are_alike}
 use Rattle.nxt_types.specs.Shapes.{is_number}
 use Rattle.nxt_model.specs.Means.Numbers.{holds}
+use Rattle.nxt_space.specs.Keeping.{Leaves}
 use Rattle.nxt_space.specs.Outcomes.{Does}
 use Rattle.nxt_space.specs.Variables.{SpaceViews, AreSound, name_of, shape_of}
 use Rattle.nxt_operands.specs.Operands.{Done, given}
@@ -26,8 +27,8 @@ jumped : (b : Bool) → ((if b then 0 else 0 + 1) == 0) ≡ b
 jumped true = refl
 jumped false = refl
 
-pub returns-in-Some : goal.returns-in-Some
-returns-in-Some c d t =
+pub returns-in-Some-clause-does : goal.returns-in-Some-clause-does
+returns-in-Some-clause-does c d t =
     let s = c.args.space.now.vars in
     let i = c.args.i.now in
     let made : IsMadeReady s i 0 c.made_ready.result = record { runs = c.requires.runs; sound = c.requires.sound; fit = c.requires.fit; ready = c.made_ready.ensures } in
@@ -93,8 +94,8 @@ holds-requires-clause-fit c =
     let fit = brcmp_fit s i is c.requires.fit in
     subst (λ (v : SpaceViews). are_alike (shape_of v.vars i.b) (shape_of v.vars i.c) ≡ true) (sym same) fit.asked_second
 
-pub returns-then-eq : goal.returns-then-eq
-returns-then-eq c d t =
+pub returns-then-eq-clause-does : goal.returns-then-eq-clause-does
+returns-then-eq-clause-does c d t =
     let s = c.args.space.now.vars in
     let i = c.args.i.now in
     let same : c.run_ready.new.space ≡ c.args.space.now = (c.in_default.ensures {u = tt}).same refl in
@@ -144,25 +145,53 @@ compute-requires-clause-fit c =
     let lists : on_numbers s i ≡ false = subst (IsReady s i 0) ((c.in_default.ensures {u = tt}).other refl) c.made_ready.ensures in
     subst (λ (v : SpaceViews). AreFit v.vars.shapes (statement_in i)) (sym same) c.requires.fit
 
-pub returns : goal.returns
-returns c d t =
+pub returns-clause-does : goal.returns-clause-does
+returns-clause-does c d t =
     let s = c.args.space.now.vars in
     let i = c.args.i.now in
     let same : c.run_ready.new.space ≡ c.args.space.now = (c.in_default.ensures {u = tt}).same refl in
     let lists : on_numbers s i ≡ false = subst (IsReady s i 0) ((c.in_default.ensures {u = tt}).other refl) c.made_ready.ensures in
     let other : i.op ≢ ops.Brcmp = λ e. let f : false ≡ true = c.if-eq.ensures {u = tt} ∙ ap (λ o. sameb the_type o ops.Brcmp) e in let g : ⊥ = cc in g in
     let stored : stores i.op ≡ true = stores_value s i c.requires.runs other (λ e. (brtst_fit s i e c.requires.fit).has) lists in
-    let done = subst (λ v. Does {T = Unit {0}} Done (values_after v.vars i d t) v (Ok tt) c.compute.new.space) same (c.in_ok-compute.ensures d t) in
+    let done = subst (λ v. Does {T = Unit {0}} Done (values_after v.vars i d t) v (Ok tt) c.compute.new.space) same (c.in_ok-compute.ensures.does d t) in
     let none = no_jump s i stored in
     let stays = falls s i d t c.requires.runs none.0 none.1 none.2 in
     (done.0, done.1, sym (ap (next_of i) stays))
 
-pub returns-in_err-compute : goal.returns-in_err-compute
-returns-in_err-compute c d t =
+pub returns-in_err-compute-clause-does : goal.returns-in_err-compute-clause-does
+returns-in_err-compute-clause-does c d t =
     let s = c.args.space.now.vars in
     let i = c.args.i.now in
     let same : c.run_ready.new.space ≡ c.args.space.now = (c.in_default.ensures {u = tt}).same refl in
     let lists : on_numbers s i ≡ false = subst (IsReady s i 0) ((c.in_default.ensures {u = tt}).other refl) c.made_ready.ensures in
     let fault = c.in_err-compute.field-0.0 in
-    let done = subst (λ v. Does {T = Unit {0}} Done (values_after v.vars i d t) v (Err fault) c.compute.new.space) same (c.in_err-compute.ensures d t) in
+    let done = subst (λ v. Does {T = Unit {0}} Done (values_after v.vars i d t) v (Err fault) c.compute.new.space) same (c.in_err-compute.ensures.does d t) in
     passed_on Done _ (values_after s i d t) c.args.space.now c.compute.new.space fault c.from_residual-in_err-compute.result c.from_residual-in_err-compute.ensures.1 done
+
+-- ---- what stays where it is
+
+pub returns-clause-leaves : goal.returns-clause-leaves
+returns-clause-leaves c =
+    let s = c.args.space.now.vars in
+    let i = c.args.i.now in
+    let same : c.run_ready.new.space ≡ c.args.space.now = (c.in_default.ensures {u = tt}).same refl in
+    let lists : on_numbers s i ≡ false = subst (IsReady s i 0) ((c.in_default.ensures {u = tt}).other refl) c.made_ready.ensures in
+    let other : i.op ≢ ops.Brcmp = λ e. let f : false ≡ true = c.if-eq.ensures {u = tt} ∙ ap (λ o. sameb the_type o ops.Brcmp) e in let g : ⊥ = cc in g in
+    let stored : stores i.op ≡ true = stores_value s i c.requires.runs other (λ e. (brtst_fit s i e c.requires.fit).has) lists in
+    subst
+    (λ b. Leaves (if b then i.a ∷ [] else []) c.args.space.now c.compute.new.space)
+    (sym stored)
+    (subst (λ v. Leaves (i.a ∷ []) v c.compute.new.space) same c.compute.ensures.leaves)
+
+pub returns-in_err-compute-clause-leaves : goal.returns-in_err-compute-clause-leaves
+returns-in_err-compute-clause-leaves c =
+    let s = c.args.space.now.vars in
+    let i = c.args.i.now in
+    let same : c.run_ready.new.space ≡ c.args.space.now = (c.in_default.ensures {u = tt}).same refl in
+    let lists : on_numbers s i ≡ false = subst (IsReady s i 0) ((c.in_default.ensures {u = tt}).other refl) c.made_ready.ensures in
+    let other : i.op ≢ ops.Brcmp = λ e. let f : false ≡ true = c.if-eq.ensures {u = tt} ∙ ap (λ o. sameb the_type o ops.Brcmp) e in let g : ⊥ = cc in g in
+    let stored : stores i.op ≡ true = stores_value s i c.requires.runs other (λ e. (brtst_fit s i e c.requires.fit).has) lists in
+    subst
+    (λ b. Leaves (if b then i.a ∷ [] else []) c.args.space.now c.compute.new.space)
+    (sym stored)
+    (subst (λ v. Leaves (i.a ∷ []) v c.compute.new.space) same c.compute.ensures.leaves)

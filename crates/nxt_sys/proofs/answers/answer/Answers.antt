@@ -7,6 +7,6 @@ use Rattle.nxt_sys.proofs.answers.answer.Goals as goal
 pub set-requires : goal.set-requires
 set-requires c = record { group = c.requires; field = first_field c.args.call }
 
-pub returns : goal.returns
-returns c =
+pub returns-clause-does : goal.returns-clause-does
+returns-clause-does c =
     answered c.args.space.now c.set.new.space c.args.cluster _ c.args.outcome (to_z-of_z {w = w64} {z = c.args.outcome} c.ranges.outcome) c.set.ensures.member c.set.ensures.cluster.sound

@@ -15,10 +15,10 @@ store_text-requires-clause-few c =
     let long : length c.as_bytes.result.now ≡ length (signed_decimal z) = ap length (c.as_bytes.ensures.value ∙ c.in_ok-digits.ensures ∙ ap signed_decimal same) in
     omega (arith, short, long)
 
-pub returns : goal.returns
-returns c =
+pub returns-clause-does : goal.returns-clause-does
+returns-clause-does c =
     let same = to_z-of_z {w = w64} {z = c.get.result} (record { sfits = c.get.type_inv }) ∙ c.get.ensures in
     subst
     (λ bs. StoresBytes c.args.space.now c.args.dest (ended bs) c.store_text.result c.store_text.new.space)
     (c.as_bytes.ensures.value ∙ c.in_ok-digits.ensures ∙ ap signed_decimal same ∙ text_of_number _)
-    c.store_text.ensures
+    c.store_text.ensures.stores

@@ -15,8 +15,8 @@ use Rattle.nxt_texts.specs.declared.numerals.Numeral.{Numeral}
 use Rattle.nxt_texts.proofs.Found.{default_numeral, found_short, found_stored}
 use Rattle.nxt_texts.proofs.numerals.string_to_number.Goals as goal
 
-pub returns : goal.returns
-returns c d =
+pub returns-clause-does : goal.returns-clause-does
+returns-clause-does c d =
     let s = c.args.space.now.vars in
     let at = word_or 0 (given_or_left s c.args.offset) in
     let default = given_or_left s c.args.default in
@@ -57,6 +57,6 @@ returns c d =
     c.requires.number
     c.requires.past
     read
-    (c.set.ensures ∙ ap {A = ℤ} (λ z. record s { values = with_value s c.args.dest (stored (shape_of s c.args.dest) (Num z)) }) word)
-    (c.set_unless_left_out.ensures
+    (c.set.ensures.value ∙ ap {A = ℤ} (λ z. record s { values = with_value s c.args.dest (stored (shape_of s c.args.dest) (Num z)) }) word)
+    (c.set_unless_left_out.ensures.value
     ∙ ap (with_number c.set.new.self.vars c.args.past) (behind ∙ ap (λ n. pos (n + found.length)) c.word_or-at.ensures))

@@ -10,8 +10,8 @@ use Rattle.nxt_texts.proofs.packing.flatten.Goals as goal
 
 -- ---- a number
 
-pub returns-in-Some : goal.returns-in-Some
-returns-in-Some c =
+pub returns-in-Some-clause-does : goal.returns-in-Some-clause-does
+returns-in-Some-clause-does c =
     let s = c.args.space.now.vars in
     let is = c.in-Some.ensures.found in
     let bytes = take c.leaf_size-size.result c.to_le_bytes-word.result in
@@ -19,7 +19,7 @@ returns-in-Some c =
     (λ bs. StoresBytes c.args.space.now c.args.dest (ended bs) c.store_text.result c.store_text.new.space)
     (number_packed (shape_of s c.args.value) c.in-Some.number.kind (value_of s c.args.value) c.word.result bytes is.shape (c.word.ensures c.args.value is)
     (ap₂ take (c.leaf_size-size.ensures ∙ ap leaf_size c.kind.ensures) c.to_le_bytes-word.ensures))
-    c.store_text.ensures
+    c.store_text.ensures.stores
 
 -- ---- another value
 
@@ -27,9 +27,9 @@ pub store_text-requires-2-clause-few : goal.store_text-requires-2-clause-few
 store_text-requires-2-clause-few c =
     omega (arith, packed_bounded c.args.space.now.vars c.args.value c.requires.sound, ap length (c.as_slice.ensures ∙ c.in_ok-bytes.ensures))
 
-pub returns : goal.returns
-returns c =
+pub returns-clause-does : goal.returns-clause-does
+returns-clause-does c =
     subst
     (λ bs. StoresBytes c.args.space.now c.args.dest (ended bs) c.store_text-2.result c.store_text-2.new.space)
     (c.as_slice.ensures ∙ c.in_ok-bytes.ensures)
-    c.store_text-2.ensures
+    c.store_text-2.ensures.stores

@@ -28,8 +28,8 @@ check_room-requires-clause-countable c =
     (omega (arith, c.in_ok-length.ensures.few))
     (stride_there s c.args.dest c.requires.sound c.requires.dest c.requires.text)
 
-pub returns-in_err-check_room : goal.returns-in_err-check_room
-returns-in_err-check_room c d =
+pub returns-in_err-check_room-clause-does : goal.returns-in_err-check_room-clause-does
+returns-in_err-check_room-clause-does c d =
     let s = c.args.space.now.vars in
     let bytes = bodies_at s c.args.sources.now in
     let w = stored (shape_of s c.args.dest) (byte_list (ended bytes)) in
@@ -46,8 +46,8 @@ returns-in_err-check_room c d =
 pub add_bodies-requires-clause-text : goal.add_bodies-requires-clause-text
 add_bodies-requires-clause-text c = spot_kind c.args.space.now.vars c.args.dest c.in-Some.list c.in-Some.ensures.0 c.requires.text
 
-pub returns-in-Some : goal.returns-in-Some
-returns-in-Some c =
+pub returns-in-Some-clause-does : goal.returns-in-Some-clause-does
+returns-in-Some-clause-does c =
     let s = c.args.space.now.vars in
     let others = c.in-Some.others.now in
     let own = body_at s c.args.dest in
@@ -57,12 +57,12 @@ returns-in-Some c =
     subst
     (λ bs. StoresBytes c.args.space.now c.args.dest bs c.add_bodies.result c.add_bodies.new.space)
     (all ∙ same_bodies s c.args.sources.now)
-    (c.add_bodies.ensures c.args.dest c.in-Some.ensures.0)
+    (c.add_bodies.ensures.stores c.args.dest c.in-Some.ensures.0)
 
-pub returns : goal.returns
-returns c =
+pub returns-clause-does : goal.returns-clause-does
+returns-clause-does c =
     let s = c.args.space.now.vars in
     subst
     (λ bs. StoresBytes c.args.space.now c.args.dest bs c.store_text.result c.store_text.new.space)
     (ap ended (c.as_slice.ensures ∙ c.in_ok-bytes.ensures) ∙ same_bodies s c.args.sources.now)
-    c.store_text.ensures
+    c.store_text.ensures.stores

@@ -4,9 +4,9 @@ use Rattle.nxt_model.specs.Means.Text.{ended}
 use Rattle.nxt_texts.specs.Texts.{StoresBytes}
 use Rattle.nxt_texts.proofs.strings.substring.Goals as goal
 
-pub returns : goal.returns
-returns c =
+pub returns-clause-does : goal.returns-clause-does
+returns-clause-does c =
     subst
     (λ bs. StoresBytes c.args.space.now c.args.dest (ended bs) c.store_text.result c.store_text.new.space)
     (c.as_slice.ensures ∙ c.in_ok-part.ensures.part)
-    c.store_text.ensures
+    c.store_text.ensures.stores

@@ -8,23 +8,23 @@ use Rattle.nxt_texts.proofs.text.store_text.Goals as goal
 
 -- ---- in place
 
-pub returns-in_err-set_text : goal.returns-in_err-set_text
-returns-in_err-set_text c =
+pub returns-in_err-set_text-clause-stores : goal.returns-in_err-set_text-clause-stores
+returns-in_err-set_text-clause-stores c =
     let bs = ended c.args.bytes.now in
     let is = c.in-Some.ensures.found in
-    bytes_refused c.args.space.now c.set_text.new.self c.args.dest c.in-Some.list bs (list_of_bytes bs) c.from_residual.result is c.requires.text refl c.from_residual.ensures.1 (c.in_err-set_text.ensures c.args.dest is)
+    bytes_refused c.args.space.now c.set_text.new.self c.args.dest c.in-Some.list bs (list_of_bytes bs) c.from_residual.result is c.requires.text refl c.from_residual.ensures.1 (c.in_err-set_text.ensures.becomes c.args.dest is)
 
-pub returns-in-Some : goal.returns-in-Some
-returns-in-Some c =
+pub returns-in-Some-clause-stores : goal.returns-in-Some-clause-stores
+returns-in-Some-clause-stores c =
     let bs = ended c.args.bytes.now in
     let is = c.in-Some.ensures.found in
-    bytes_set c.args.space.now c.set_text.new.self c.args.dest c.in-Some.list bs (list_of_bytes bs) is c.requires.text refl (c.in_ok-set_text.ensures c.args.dest is)
+    bytes_set c.args.space.now c.set_text.new.self c.args.dest c.in-Some.list bs (list_of_bytes bs) is c.requires.text refl (c.in_ok-set_text.ensures.becomes c.args.dest is)
 
 -- ---- elements that stand apart
 
-pub returns : goal.returns
-returns c =
+pub returns-clause-stores : goal.returns-clause-stores
+returns-clause-stores c =
     subst
     (λ bs. StoresBytes c.args.space.now c.args.dest bs c.store_apart.result c.store_apart.new.space)
     (c.as_slice.ensures ∙ c.in_ok-text.ensures)
-    c.store_apart.ensures
+    c.store_apart.ensures.stores

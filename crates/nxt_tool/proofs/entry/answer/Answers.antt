@@ -7,6 +7,7 @@ use Rattle.nxt_tool.specs.declared.status.Status.TheVariants as status
 use Rattle.nxt_tool.proofs.Reports.Statuses.{unused, unwritten, no_image, no_image_description, due_to, no_words_answer}
 use Rattle.nxt_tool.proofs.Reports.TextRuns.{no_image_text}
 use Rattle.nxt_tool.proofs.Reports.Generated.{no_image_generated}
+use Rattle.nxt_tool.proofs.Reports.CutRuns.{reads_as}
 use Rattle.nxt_tool.proofs.entry.answer.Goals as goal
 
 pub returns-in-Some-RunRxe-clause-told : goal.returns-in-Some-RunRxe-clause-told
@@ -99,3 +100,35 @@ returns-in-None-clause-told g c = λ b s bytes program script.
     let words = texts_of c.args.words.now in
     let form : command_of words ≡ None = search rules in
     (answer status.Words [] [], due_to words None b s (answer status.Words [] []) form refl, no_words_answer _ _)
+
+-- ---- a fault of the script's source
+
+pub returns-in-Some-RunRxe-clause-cut : goal.returns-in-Some-RunRxe-clause-cut
+returns-in-Some-RunRxe-clause-cut g c = λ b s program uses script failed.
+    let words = texts_of c.args.words.now in
+    let form : command_of words ≡ Some RunRxe = search rules in
+    (RunRxe, form, c.run.ensures.cut b s program (reads_as words b RunRxe form uses) script failed)
+
+pub returns-in-Some-RunNbc-clause-cut : goal.returns-in-Some-RunNbc-clause-cut
+returns-in-Some-RunNbc-clause-cut g c = λ b s program uses script failed.
+    let words = texts_of c.args.words.now in
+    let form : command_of words ≡ Some RunNbc = search rules in
+    (RunNbc, form, c.run_text.ensures.cut b s program (reads_as words b RunNbc form uses) script failed)
+
+pub returns-in-Some-Assemble-clause-cut : goal.returns-in-Some-Assemble-clause-cut
+returns-in-Some-Assemble-clause-cut g c = λ b s program uses script failed.
+    let words = texts_of c.args.words.now in
+    let form : command_of words ≡ Some Assemble = search rules in
+    absurd (reads_as words b Assemble form uses)
+
+pub returns-in-Some-Describe-clause-cut : goal.returns-in-Some-Describe-clause-cut
+returns-in-Some-Describe-clause-cut g c = λ b s program uses script failed.
+    let words = texts_of c.args.words.now in
+    let form : command_of words ≡ Some (Describe c.in-Some-Describe.description) = search rules in
+    absurd (reads_as words b (Describe c.in-Some-Describe.description) form uses)
+
+pub returns-in-Some-Generate-clause-cut : goal.returns-in-Some-Generate-clause-cut
+returns-in-Some-Generate-clause-cut g c = λ b s program uses script failed.
+    let words = texts_of c.args.words.now in
+    let form : command_of words ≡ Some (Generate c.in-Some-Generate.number) = search rules in
+    absurd (reads_as words b (Generate c.in-Some-Generate.number) form uses)

@@ -7,6 +7,8 @@ use Rattle.nxt_tool.specs.Due.{Accepts, AcceptsImage, answer_to, refused_answer}
 use Rattle.nxt_tool.specs.declared.fault.AcceptFault.TheVariants.{Refused}
 use Rattle.nxt_tool.specs.declared.words.Command.TheVariants.{RunRxe}
 use Rattle.nxt_tool.proofs.Reports.Statuses.{long_list, read_is, run_on, accepted_run, refused_run, unread_run, no_memory_run}
+use Rattle.nxt_model.specs.Report.{setting}
+use Rattle.nxt_tool.proofs.Reports.CutRuns.{cut_image, uncut}
 use Rattle.nxt_tool.proofs.entry.run.Goals as goal
 
 pub returns-in-Err-clause-told : goal.returns-in-Err-clause-told
@@ -63,3 +65,21 @@ returns-clause-told g c = λ b s bytes program script.
     let cause : HasCause c.as_slice.result.now (Refused refusal) = rw c.in-Err-Refused.field-0-is at c.in-Err-Refused.ensures.accepted in
     let refused : IsRefused b refusal = subst (λ (l : List ℕ). IsRefused l refusal) (c.as_slice.ensures ∙ same) cause in
     (refused_answer refusal, refused_run b s refusal few refused, c.refuse.ensures.told)
+
+-- ---- a fault of the script's source
+
+pub returns-in-Err-clause-cut : goal.returns-in-Err-clause-cut
+returns-in-Err-clause-cut g c = λ b s program reads script failed. (reads.image, reads.accepted, uncut (setting reads.image 0) s _ _)
+
+pub returns-in-Ok-accept-clause-cut : goal.returns-in-Ok-accept-clause-cut
+returns-in-Ok-accept-clause-cut g c = λ b s program reads script failed.
+    let image = c.in-Ok-accept.machine.image in
+    let same : c.in-Ok.bytes ≡ b = read_is _ b _ program c.in-Ok.ensures.all in
+    let accepted : IsAcceptedAs b image = subst (λ (l : List ℕ). IsAcceptedAs l image) (c.as_slice.ensures ∙ same) c.in-Ok-accept.ensures.accepted in
+    (image, accepted, cut_image image s _ _ _ _ (c.run_program.ensures.cut s script failed))
+
+pub returns-in-Err-NoMemory-clause-cut : goal.returns-in-Err-NoMemory-clause-cut
+returns-in-Err-NoMemory-clause-cut g c = λ b s program reads script failed. absurd cc
+
+pub returns-clause-cut : goal.returns-clause-cut
+returns-clause-cut g c = λ b s program reads script failed. absurd (c.refuse.ensures.only.0 failed)

@@ -8,6 +8,12 @@ use Rattle.nxt_tool.specs.declared.fault.AcceptFault.TheVariants.{Refused}
 use Rattle.nxt_tool.specs.declared.words.Command.TheVariants.{RunNbc}
 use Rattle.nxt_tool.proofs.Reports.Statuses.{long_list, read_is}
 use Rattle.nxt_tool.proofs.Reports.TextRuns.{alike_report, no_memory_text_run, refused_text_run, spelled_text_run, unread_text_run}
+use Rattle.nxt_model.specs.Image.{program_of}
+use Rattle.nxt_model.specs.Program.{start}
+use Rattle.nxt_model.specs.Report.{text_setting}
+use Rattle.nxt_tool.specs.Cut.{CutText}
+use Rattle.nxt_tool.specs.Running.{held}
+use Rattle.nxt_tool.proofs.Reports.CutRuns.{cut_text_run, uncut}
 use Rattle.nxt_tool.proofs.entry.run_text.Goals as goal
 
 pub returns-in-Err-clause-told : goal.returns-in-Err-clause-told
@@ -62,3 +68,30 @@ returns-clause-told g c = λ b s bytes program script.
     let cause : HasTextCause c.as_slice.result.now (Refused refusal) = rw c.in-Err-Refused.field-0-is at c.in-Err-Refused.ensures.spelled in
     let refused : IsRefusedText b refusal = subst (λ (l : List ℕ). IsRefusedText l refusal) (c.as_slice.ensures ∙ same) cause in
     (refused_answer refusal, refused_text_run b s refusal few refused, c.refuse.ensures.told)
+
+-- ---- a fault of the script's source
+
+pub returns-in-Err-clause-cut : goal.returns-in-Err-clause-cut
+returns-in-Err-clause-cut g c = λ b s program reads script failed. (reads.text, reads.spelled, reads.kept, uncut (text_setting reads.text 0) s _ _)
+
+pub returns-in-Ok-machine_of_text-clause-cut : goal.returns-in-Ok-machine_of_text-clause-cut
+returns-in-Ok-machine_of_text-clause-cut g c = λ b s program reads script failed.
+    let image = c.in-Ok-machine_of_text.machine.image in
+    let same : c.in-Ok.bytes ≡ b = read_is _ b _ program c.in-Ok.ensures.all in
+    let is : IsTextImage b image = subst (λ (l : List ℕ). IsTextImage l image) (c.as_slice.ensures ∙ same) c.in-Ok-machine_of_text.ensures.spelled in
+    let cut = c.run_program.ensures.cut s script failed in (
+      is.program,
+      is.spelled,
+      is.kept,
+      cut_text_run is.program s _ _ _ _ is.faithful
+          (subst
+          (λ i. CutText (held i (start (program_of i))) s (g.Q.Source.left c.args.script.now) (g.Q.Source.left c.run_program.new.script) (g.R.Sink.written c.args.report.now) (g.R.Sink.written c.run_program.new.report))
+          is.image_is
+          cut),
+    )
+
+pub returns-in-Err-NoMemory-clause-cut : goal.returns-in-Err-NoMemory-clause-cut
+returns-in-Err-NoMemory-clause-cut g c = λ b s program reads script failed. absurd cc
+
+pub returns-clause-cut : goal.returns-clause-cut
+returns-clause-cut g c = λ b s program reads script failed. absurd (c.refuse.ensures.only.0 failed)

@@ -1,12 +1,12 @@
 -- Row by row, and the end.
 use Rattle.std.proofs.Common.{◌≡◌, ◌+◌, ◌++◌, ◌∙◌, ℕ, List, [], Bool, false, true, Result, Ok, Err, refl, sym, ap, subst, arith, append_assoc}
 use Rattle.std.proofs.lemmas.List.{append-nil}
-use Rattle.std.specs.Prelude.{IfOk}
+use Rattle.std.specs.Prelude.{IfOk, OnOk}
 use Rattle.nxt_model.specs.Report.{End, Whole, Bad, TooLarge, closing}
 use Rattle.nxt_model.specs.Step.{events_of}
 use Rattle.nxt_model.specs.declared.event.ScriptRow.{ScriptRow}
 use Rattle.nxt_script.specs.Rows.{Listing, rows, no_rows, with_row}
-use Rattle.nxt_script.specs.Scripts.{Unread, to_come, rows_given, IsOpen}
+use Rattle.nxt_script.specs.Scripts.{Seen, unread, to_come, rows_given, IsOpen}
 use Rattle.nxt_tool.specs.Running.{Held, held_in, after_all, text_from, report}
 use Rattle.nxt_tool.specs.Statuses.{status_of}
 use Rattle.nxt_tool.specs.declared.status.Status.{Status}
@@ -15,6 +15,8 @@ use Rattle.nxt_tool.specs.declared.writing.Fault.{Fault}
 use Rattle.nxt_tool.specs.Writing.{Wrote}
 use Rattle.nxt_tool.proofs.Reports.Pieces.{Wrote-start, Wrote-more, Wrote-on, Wrote-part, Wrote-all, Wrote-front, Told-last, Told-failed}
 use Rattle.nxt_tool.proofs.Reports.Runs.{report_row, report_end}
+use Rattle.nxt_script.specs.Ahead.{HasEnded, TakesFew}
+use Rattle.nxt_tool.proofs.Reports.Cut.{Took, Ran-none, Ran-more, Took-none, Took-row, cut_text}
 use Rattle.nxt_tool.proofs.Reports.Scripts.{gives_row, row_known, end_known, bad_known, many_known, large_known}
 use Rattle.nxt_tool.proofs.running.run_script.Goals as goal
 
@@ -22,13 +24,15 @@ pub loop-row-init : goal.loop-row-init
 loop-row-init g c = record {
   told = λ s e. (
     rows s,
-    ap (λ x. to_come x (g.Q.Source.left c.args.source.now)) c.new-script.ensures ∙ ap (λ o. to_come Unread o) e,
+    ap (λ x. to_come x (g.Q.Source.left c.args.source.now)) c.new-script.ensures ∙ ap (λ o. to_come unread o) e,
     refl,
     subst
         (λ t. Wrote (g.R.Sink.written c.args.report.now) (g.R.Sink.written c.args.report.now) (report (held_in c.args.machine.now) (rows s)) (t ++ report (held_in c.args.machine.now) (rows s)))
         (sym c.new-gathered.ensures)
         (Wrote-start (g.R.Sink.written c.args.report.now) (report (held_in c.args.machine.now) (rows s))),
+    Ran-none (held_in c.args.machine.now) (rows s).rows,
   );
+  took = subst (λ (x : Seen). Took x (g.Q.Source.left c.args.source.now) (g.Q.Source.left c.args.source.now) 0) (sym c.new-script.ensures) (Took-none (g.Q.Source.left c.args.source.now));
   open_yet = subst IsOpen (sym c.new-script.ensures) tt;
   given = ap rows_given c.new-script.ensures;
   few = omega arith;
@@ -70,7 +74,11 @@ loop-row-preserved g c =
             next.1,
             sym (ap (λ (l : Listing). l.end) next.2) ∙ told.2,
             Wrote-on _ _ _ _ _ _ _ _ left told.3 c.in_ok-run_row-in-Ok-Some.ensures.writes.ok,
+            Ran-more _ h (held_in c.run_row.new.machine) (rows s).rows told.0 next.0 row c.loop-row.rows told.4 next.2 c.in_ok-run_row-in-Ok-Some.ensures.state,
           );
+      took = Took-row c.loop-row.script c.next_row.new.self _ _ _ c.loop-row.rows is.took is.open_yet row
+          (subst (TakesFew c.loop-row.script (g.Q.Source.left c.loop-row.source) c.next_row.new.self (g.Q.Source.left c.next_row.new.source)) same c.next_row.ensures.few)
+          (λ ended. subst (λ r. OnOk r (HasEnded c.next_row.new.self)) same (c.next_row.ensures.over ended).2);
       open_yet = c.in-Ok-Some.ensures.open;
       given = given.given ∙ ap (λ n. n + 1) is.given;
       few = let few = given.few in let same = given.given in let before = is.given in omega (arith, few, same, before);
@@ -155,8 +163,36 @@ returns-in-Err-TooLarge-clause-text g c = λ s e.
     let left = large_left (held_in c.loop-row.machine) c.loop-row.gathered c.as_slice.result.now told.0 end c.as_slice.ensures in
     (Wrote-all _ _ _ (Wrote-more _ _ _ _ _ c.as_slice.result.now [] left told.3 c.in_ok-put-in-Err-TooLarge.ensures.ok), tt)
 
+-- ---- a fault of the source
+
+-- what was gathered is written, and the rest isn't
+failed_left : (h : Held) (gathered piece : List ℕ) (l : Listing) → piece ≡ gathered → gathered ++ report h l ≡ piece ++ report h l
+failed_left h gathered piece l same = ap (λ t. t ++ report h l) (sym same)
+
+pub returns-in_err-put-in-Err-Failed-clause-text : goal.returns-in_err-put-in-Err-Failed-clause-text
+returns-in_err-put-in-Err-Failed-clause-text g c = λ s e.
+    let told = c.loop-row.invariant.told s e in
+    let h = held_in c.loop-row.machine in
+    let piece = c.as_slice-in-Err-Failed.result.now in
+    Told-failed _ _ c.from_residual-in_err-put-in-Err-Failed.result _ c.in_err-put-in-Err-Failed.field-0.0 c.from_residual-in_err-put-in-Err-Failed.ensures.1
+    (Wrote-part _ _ _ _ _ piece (report h told.0) (failed_left h c.loop-row.gathered piece told.0 c.as_slice-in-Err-Failed.ensures) told.3 c.in_err-put-in-Err-Failed.ensures.err)
+
 pub returns-in-Err-Failed-clause-text : goal.returns-in-Err-Failed-clause-text
-returns-in-Err-Failed-clause-text g c = λ s e. let told = c.loop-row.invariant.told s e in (tt, Wrote-front _ _ _ _ told.3)
+returns-in-Err-Failed-clause-text g c = λ s e.
+    let told = c.loop-row.invariant.told s e in
+    let h = held_in c.loop-row.machine in
+    let piece = c.as_slice-in-Err-Failed.result.now in
+    (tt, Wrote-front _ _ _ _ (Wrote-more _ _ _ _ _ piece (report h told.0) (failed_left h c.loop-row.gathered piece told.0 c.as_slice-in-Err-Failed.ensures) told.3 c.in_ok-put-in-Err-Failed.ensures.ok))
+
+pub returns-in-Err-Failed-clause-cut : goal.returns-in-Err-Failed-clause-cut
+returns-in-Err-Failed-clause-cut g c = λ s e failed.
+    let is = c.loop-row.invariant in
+    let told = is.told s e in
+    cut_text c.loop-row.script c.next_row.new.self _ _ _ c.loop-row.rows is.took is.open_yet
+    (subst (TakesFew c.loop-row.script (g.Q.Source.left c.loop-row.source) c.next_row.new.self (g.Q.Source.left c.next_row.new.source)) (c.in-Err-Failed.is ∙ ap Err c.in-Err-Failed.field-0-is) c.next_row.ensures.few)
+    (λ ended. (c.next_row.ensures.over ended).1 (c.in-Err-Failed.is ∙ ap Err c.in-Err-Failed.field-0-is))
+    _ (held_in c.loop-row.machine) s told.0 told.4 told.2
+    _ _ _ c.loop-row.gathered c.as_slice-in-Err-Failed.result.now c.as_slice-in-Err-Failed.ensures told.3 c.in_ok-put-in-Err-Failed.ensures.ok
 
 pub returns-in-Err-NoMemory-clause-text : goal.returns-in-Err-NoMemory-clause-text
 returns-in-Err-NoMemory-clause-text g c = λ s e. let told = c.loop-row.invariant.told s e in (tt, Wrote-front _ _ _ _ told.3)

@@ -4,7 +4,7 @@ use Rattle.std.proofs.lemmas.Bool.{leb-true}
 use Rattle.nxt_rows.specs.Rows.{dope_row, row_count}
 use Rattle.nxt_blocks.specs.Blocks.{total}
 use Rattle.nxt_compact.specs.Pools.{block_bytes, blocks_in}
-use Rattle.nxt_compact.proofs.Opening.{bytes_before, before_next, before_all}
+use Rattle.nxt_compact.proofs.Laws.Opening.{bytes_before, before_next, before_all}
 use Rattle.nxt_trials_compact.proofs.Room.{row_inside, all_inside, next_inside}
 use Rattle.nxt_trials_compact.proofs.sound.has_room.Goals as goal
 

@@ -3,7 +3,7 @@ use Rattle.std.proofs.Common.{OnErr, ◌≡◌, ◌+◌, ◌<◌, ◌∷◌, [],
 use Rattle.std.proofs.lemmas.List.{drop_more}
 use Rattle.std.proofs.lemmas.Result.{IfOk-weaker, on_err_weaker}
 use Rattle.std.proofs.Math.ListN.{drop_of_length-le}
-use Rattle.nxt_types.specs.Shapes.{Number, cluster_of, tree, members}
+use Rattle.nxt_types.specs.Shapes.{Number, cluster_of, tree, members, has_list}
 use Rattle.nxt_types.specs.Names.{size, sizes}
 use Rattle.nxt_types.specs.Pool.{pool_size}
 use Rattle.nxt_heap.specs.Lists.{footprint}
@@ -18,6 +18,8 @@ use Rattle.nxt_values.proofs.Laws.Needs.{on_err}
 use Rattle.nxt_values.proofs.Fill.Opened.{footprint_put}
 use Rattle.nxt_values.proofs.Fill.Steps.{MembersLeft, number_filled, cluster_filled, elements_begin, elements_end, element_room, element_done, member_room, member_done, members_end, element_passed}
 use Rattle.nxt_values.proofs.Fill.Lists.{opened_room, opened_filled, opened_passed, list_passed}
+use Rattle.nxt_heap.proofs.Laws.Moves.{rows_same, rows_then}
+use Rattle.nxt_values.proofs.Fill.NoLists.{none_among}
 use Rattle.nxt_values.proofs.writing.+fill.Goals as goal
 
 -- ---- lists
@@ -50,11 +52,11 @@ fill-returns-in_ok-elements-in-List-clause-filled t c =
 -- ---- elements
 
 pub fill_elements-loop-k-init : goal.fill_elements-loop-k-init
-fill_elements-loop-k-init t c = elements_begin c.requires.pool c.requires.room
+fill_elements-loop-k-init t c = (elements_begin c.requires.pool c.requires.room, λ none. rows_same c.args.heap.now.pool)
 
 pub fill_elements-fill-requires : goal.fill_elements-fill-requires
 fill_elements-fill-requires t c =
-    let left = c.loop-k.invariant in
+    let left = c.loop-k.invariant.0 in
     let here = c.place.ensures in (
       omega arith,
       (
@@ -70,22 +72,24 @@ fill_elements-fill-requires t c =
     )
 
 pub fill_elements-loop-k-preserved : goal.fill_elements-loop-k-preserved
-fill_elements-loop-k-preserved t c =
-    element_done
-    c.loop-k.invariant
-    c.loop-k-test.true
-    c.place.ensures
-    c.in_ok-left.ensures.pool
-    c.in_ok-left.ensures.filled
+fill_elements-loop-k-preserved t c = (
+  element_done
+      c.loop-k.invariant.0
+      c.loop-k-test.true
+      c.place.ensures
+      c.in_ok-left.ensures.pool
+      c.in_ok-left.ensures.filled,
+  λ none. rows_then c.args.heap.now.pool c.loop-k.heap.pool c.fill.new.heap.pool (c.loop-k.invariant.1 none) (c.in_ok-left.ensures.stays none),
+)
 
 pub fill_elements-returns-clause-filled : goal.fill_elements-returns-clause-filled
-fill_elements-returns-clause-filled t c = elements_end c.loop-k.invariant (omega arith)
+fill_elements-returns-clause-filled t c = elements_end c.loop-k.invariant.0 (omega arith)
 
 -- ---- numbers
 
 pub fill-returns-in-Num-clause-pool : goal.fill-returns-in-Num-clause-pool
 fill-returns-in-Num-clause-pool t c =
-    let same = ap footprint c.set_first.ensures ∙ footprint_put c.args.heap.now.lists c.args.at.region (bytes_of_number c.in-Num.kind (first_of c.args.from.now)) c.leaf_place-place.result c.requires.region in
+    let same = ap footprint c.set_first.ensures.lists ∙ footprint_put c.args.heap.now.lists c.args.at.region (bytes_of_number c.in-Num.kind (first_of c.args.from.now)) c.leaf_place-place.result c.requires.region in
     omega (arith, same, c.requires.pool)
 
 pub fill-returns-in-Num-clause-filled : goal.fill-returns-in-Num-clause-filled
@@ -112,7 +116,7 @@ fill-returns-in-Num-clause-filled t c =
     (omega (arith, c.leaf_place-place.ensures, room.within, room.fits))
     refl
     c.behind.ensures
-    c.set_first.ensures)
+    c.set_first.ensures.lists)
 
 -- ---- groups
 
@@ -148,6 +152,12 @@ fill-returns-in-Group-clause-filled t c =
     (cluster_filled c.args.entries.now c.args.heap.now.lists c.fill_members.new.heap.lists (members (map tree l)) at.entry at.region at.base c.args.from.now rest.now e))
     (rw c.inside.ensures at c.fill_members.ensures.filled)
 
+pub fill-returns-in-Group-clause-stays : goal.fill-returns-in-Group-clause-stays
+fill-returns-in-Group-clause-stays t c none =
+    let l = c.as_slice.result.now in
+    let is : tree c.args.shape.now ≡ cluster_of (map tree l) = group_tree c.args.shape.now c.in-Group.members.items l c.in-Group.is c.as_slice.ensures.value in
+    c.fill_members.ensures.stays (sym (ap has_list is) ∙ none)
+
 -- ---- members
 
 pub fill_members-fill-requires : goal.fill_members-fill-requires
@@ -163,7 +173,7 @@ fill_members-fill-requires t c =
     subst
     (λ ys. MembersLeft c.args.entries.now c.loop-shape.heap.lists at.region at.base n at.entry (sizes (members (map tree xs))) (members (map tree ys)) c.loop-shape.entry c.loop-shape.left.now (needs_for_all c.args.heap.now.lists (members (map tree xs)) c.args.from.now) (λ f more. FillAllThere c.args.entries.now c.args.heap.now.lists f (members (map tree xs)) at c.args.from.now more))
     here
-    c.loop-shape.invariant
+    c.loop-shape.invariant.0
     in
     let room = member_room c.args.entries.now (tree x) (members (map tree rest)) c.loop-shape.entry at.base n left.room in rw c.member.ensures (
       omega (arith, left.behind, left.entries),
@@ -193,30 +203,34 @@ fill_members-loop-shape-preserved t c =
     subst
     (λ ys. MembersLeft c.args.entries.now c.loop-shape.heap.lists at.region at.base n at.entry all (members (map tree ys)) c.loop-shape.entry c.loop-shape.left.now (needs_for_all c.args.heap.now.lists (members (map tree xs)) c.args.from.now) (λ f more. FillAllThere c.args.entries.now c.args.heap.now.lists f (members (map tree xs)) at c.args.from.now more))
     here
-    c.loop-shape.invariant
-    in
-    subst
-    (λ k. MembersLeft c.args.entries.now c.fill.new.heap.lists at.region at.base n at.entry all (members (map tree rest)) (c.loop-shape.entry + k) c.in_ok-left.left.now (needs_for_all c.args.heap.now.lists (members (map tree xs)) c.args.from.now) (λ f more. FillAllThere c.args.entries.now c.args.heap.now.lists f (members (map tree xs)) at c.args.from.now more))
-    (sym c.size_of-entry.ensures)
-    (member_done
-    c.args.entries.now
-    c.loop-shape.heap.lists
-    c.fill.new.heap.lists
-    at.region
-    at.base
-    n
-    at.entry
-    all
-    (tree x)
-    (members (map tree rest))
-    c.loop-shape.entry
-    c.loop-shape.left.now
-    c.in_ok-left.left.now
-    (needs_for_all c.args.heap.now.lists (members (map tree xs)) c.args.from.now)
-    (λ f more. FillAllThere c.args.entries.now c.args.heap.now.lists f (members (map tree xs)) at c.args.from.now more)
-    left
-    c.in_ok-left.ensures.pool
-    (rw c.member.ensures at c.in_ok-left.ensures.filled))
+    c.loop-shape.invariant.0
+    in (
+      subst
+          (λ k. MembersLeft c.args.entries.now c.fill.new.heap.lists at.region at.base n at.entry all (members (map tree rest)) (c.loop-shape.entry + k) c.in_ok-left.left.now (needs_for_all c.args.heap.now.lists (members (map tree xs)) c.args.from.now) (λ f more. FillAllThere c.args.entries.now c.args.heap.now.lists f (members (map tree xs)) at c.args.from.now more))
+          (sym c.size_of-entry.ensures)
+          (member_done
+          c.args.entries.now
+          c.loop-shape.heap.lists
+          c.fill.new.heap.lists
+          at.region
+          at.base
+          n
+          at.entry
+          all
+          (tree x)
+          (members (map tree rest))
+          c.loop-shape.entry
+          c.loop-shape.left.now
+          c.in_ok-left.left.now
+          (needs_for_all c.args.heap.now.lists (members (map tree xs)) c.args.from.now)
+          (λ f more. FillAllThere c.args.entries.now c.args.heap.now.lists f (members (map tree xs)) at c.args.from.now more)
+          left
+          c.in_ok-left.ensures.pool
+          (rw c.member.ensures at c.in_ok-left.ensures.filled)),
+      λ none.
+          let two = none_among xs i x rest here none in
+          rows_then c.args.heap.now.pool c.loop-shape.heap.pool c.fill.new.heap.pool (c.loop-shape.invariant.1 none) (c.in_ok-left.ensures.stays two),
+    )
 
 pub fill_members-returns-clause-filled : goal.fill_members-returns-clause-filled
 fill_members-returns-clause-filled t c =
@@ -238,7 +252,7 @@ fill_members-returns-clause-filled t c =
     (needs_for_all c.args.heap.now.lists (members (map tree xs)) c.args.from.now)
     (λ f more. FillAllThere c.args.entries.now c.args.heap.now.lists f (members (map tree xs)) at c.args.from.now more)
     (ap (λ ys. members (map tree ys)) none)
-    c.loop-shape.invariant
+    c.loop-shape.invariant.0
 
 -- ---- what the pool does not hold
 
@@ -263,7 +277,7 @@ fill_elements-returns-in_err-left-clause-passed t c =
     (pool_size < needs_for_each c.args.heap.now.lists (tree c.args.element.now) c.args.elements.count c.args.from.now)
     (element_passed
     {Whole = λ f rest. FillsElements c.args.entries.now c.args.heap.now.lists f (tree c.args.element.now) c.args.elements c.args.from.now rest}
-    c.loop-k.invariant
+    c.loop-k.invariant.0
     c.loop-k-test.true
     c.in_err-left.ensures.passed)
 

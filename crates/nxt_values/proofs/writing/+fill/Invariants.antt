@@ -1,6 +1,7 @@
 -- What is filled so far, and what is still to be filled.
-use Rattle.std.proofs.Common.{◌+◌, ◌*◌, drop, map, length}
-use Rattle.nxt_types.specs.Shapes.{tree, members}
+use Rattle.std.proofs.Common.{◌≡◌, ◌+◌, ◌*◌, false, drop, map, length}
+use Rattle.nxt_types.specs.Shapes.{tree, members, has_list, some_list}
+use Rattle.nxt_heap.specs.Moves.{RowsStay}
 use Rattle.nxt_types.specs.Names.{size, sizes}
 use Rattle.nxt_values.specs.Regions.{bytes_in}
 use Rattle.nxt_values.specs.Fills.{needs_for_all, needs_for_each, FillAllThere}
@@ -28,6 +29,7 @@ invariant-fill_elements-loop-k l =
     l.left
     (needs_for_each l.fn.heap.lists (tree l.element) l.elements.count l.from)
     (λ f rest. FillsElements l.entries l.fn.heap.lists f (tree l.element) l.elements l.from rest)
+    × (has_list (tree l.element) ≡ false → RowsStay l.fn.heap.pool l.heap.pool)
 
 abbrev pub invariant-fill_members-loop-shape : goal.invariant-fill_members-loop-shape
 invariant-fill_members-loop-shape l =
@@ -44,3 +46,4 @@ invariant-fill_members-loop-shape l =
     l.left
     (needs_for_all l.fn.heap.lists (members (map tree l.shapes)) l.fn.from)
     (λ f rest. FillAllThere l.entries l.fn.heap.lists f (members (map tree l.shapes)) l.at l.fn.from rest)
+    × (some_list (members (map tree l.shapes)) ≡ false → RowsStay l.fn.heap.pool l.heap.pool)

@@ -50,7 +50,7 @@ free_lists-returns-after-loop-k t c =
     let all = c.elements_at-elements.ensures in
     let has = has_list all (ap tree c.in-List.is) c.requires.holds c.requires.own in
     let end : c.loop-k.k ≡ c.elements_at-elements.result.count = omega arith in
-    list_freed all (ap tree c.in-List.is) has end c.loop-k.invariant c.free_array.ensures
+    list_freed all (ap tree c.in-List.is) has end c.loop-k.invariant c.free_array.ensures.lists
 
 -- ---- groups
 

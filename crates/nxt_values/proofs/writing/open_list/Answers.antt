@@ -56,7 +56,7 @@ returns-clause-opened c =
           (omega arith)
           (length-of_length n [])
           c.in_ok-row.ensures.free
-          (c.set_row.ensures
+          (c.set_row.ensures.lists
           ∙ ap (λ p. with_bytes c.resize.new.self.lists region (put bs p (bytes_in c.resize.new.self.lists region))) c.leaf_place-place.ensures
           ∙ ap (λ xs. with_bytes c.resize.new.self.lists region (put bs at xs)) same.1
           ∙ ap (λ g. with_bytes g region (put bs at (bytes_in h region))) made);

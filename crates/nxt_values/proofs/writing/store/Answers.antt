@@ -1,16 +1,20 @@
 -- What is stored stands there, and lists keep their rows.
-use Rattle.std.proofs.Common.{◌<◌, IfOk, OnErr, sym, ap, ◌∙◌, subst}
-use Rattle.std.proofs.lemmas.Result.{IfOk-weaker, on_err_weaker}
-use Rattle.nxt_types.specs.Shapes.{tree}
+use Rattle.std.proofs.Common.{◌<◌, ◌≤◌, ◌*◌, length, IfOk, OnErr, sym, ap, ◌∙◌, subst}
+use Rattle.std.proofs.lemmas.Bool.{false≢true}
+use Rattle.std.proofs.lemmas.Result.{IfOk-weaker, on_ok_weaker, on_err_weaker}
+use Rattle.nxt_types.specs.Shapes.{Array, tree, has_list}
 use Rattle.nxt_types.specs.Pool.{pool_size}
+use Rattle.nxt_heap.specs.Lists.{bytes_at}
 use Rattle.nxt_values.specs.Regions.{bytes_in}
 use Rattle.nxt_values.specs.Writes.{emptied, KeepsRows}
 use Rattle.nxt_values.specs.Fills.{needs_for, FillsThere}
-use Rattle.nxt_values.specs.Elements.{FillsElements, closed}
+use Rattle.nxt_values.specs.Elements.{FillsElements, closed, row_there, GetsNoLonger}
 use Rattle.nxt_values.proofs.Laws.Needs.{on_err}
 use Rattle.nxt_values.proofs.Free.Emptied.{emptied_room}
 use Rattle.nxt_values.proofs.Fill.Lists.{opened_room, opened_filled, opened_passed, list_passed}
 use Rattle.nxt_values.proofs.Store.Kept.{no_rows, no_list, nothing_freed, one_freed, has_row, row_kept, on_ok}
+use Rattle.nxt_heap.proofs.Laws.Moves.{none_moves, none_then}
+use Rattle.nxt_values.proofs.Fill.NoLists.{not_longer}
 use Rattle.nxt_values.proofs.writing.store.Goals as goal
 
 -- ---- lists that keep their rows
@@ -105,4 +109,21 @@ returns-in_default c =
           (KeepsRows table h g s at)
           (λ rest e some. no_rows table g s at.entry (bytes_in g at.region) at.base none ∙ sym (no_rows table h s at.entry (bytes_in h at.region) at.base none))
           c.fill.ensures.filled;
+      stays = c.fill.ensures.stays;
+      shorter = λ less. absurd (not_longer table h c.args.shape.now at c.args.from.now c.in_default.not-List less);
     }
+
+-- ---- blocks that stay
+
+pub returns-in_ok-elements-in-List-clause-stays : goal.returns-in_ok-elements-in-List-clause-stays
+returns-in_ok-elements-in-List-clause-stays c none = absurd (false≢true (sym none ∙ ap has_list (ap tree c.in-List.is)))
+
+pub returns-in_ok-elements-in-List-clause-shorter : goal.returns-in_ok-elements-in-List-clause-shorter
+returns-in_ok-elements-in-List-clause-shorter c less =
+    let h = c.args.heap.now in
+    let mid = c.reopen_list.new.heap.pool in
+    let new = c.fill_elements.new.heap.pool in
+    let own : GetsNoLonger c.args.entries.now h.lists (Array c.in-List.stride (tree c.in-List.element.value)) c.args.at c.args.from.now = subst (λ s. GetsNoLonger c.args.entries.now h.lists s c.args.at c.args.from.now) (ap tree c.in-List.is) less in
+    let stays = rw c.deref.ensures at c.fill_elements.ensures.stays in
+    let moved = c.in_ok-elements-in-List.ensures.shorter (subst (λ n. n * c.in-List.stride ≤ length (bytes_at h.lists (row_there c.args.entries.now h.lists c.args.at))) (sym c.first_count.ensures) own.1) in
+    on_ok_weaker c.fill_elements.result (λ rows. none_then h.pool mid new moved (none_moves mid new rows)) (stays own.0)

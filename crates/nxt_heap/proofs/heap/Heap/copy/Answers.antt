@@ -1,10 +1,11 @@
-use Rattle.std.proofs.Common.{◌∙◌, sym, ap, arith, take, drop, refl}
+use Rattle.std.proofs.Common.{◌∙◌, sym, ap, arith, take, drop, refl, subst}
 use Rattle.std.proofs.lemmas.List.{with_items_is}
 use Rattle.nxt_rows.specs.Rows.{dope_row}
 use Rattle.nxt_heap.specs.Lists.{with_bytes, bytes_at, bytes_of}
 use Rattle.nxt_heap.specs.Inside.Pool.{row_bytes, Stores}
 use Rattle.nxt_heap.proofs.Seen.{Lives, lives, list_row}
 use Rattle.nxt_heap.proofs.Changed.{shown, size_lived, after_bytes, still_heap}
+use Rattle.nxt_heap.specs.Moves.{RowsStay}
 use Rattle.nxt_heap.proofs.heap.Heap.copy.Goals as goal
 
 living : (c : goal.After-deref_mut) → Lives c.self.inside.pool.items c.self.inside.places.table c.args.to
@@ -48,8 +49,8 @@ invariant_of-self c =
     let items = with_items_is c.self.inside.pool c.copy_bytes.new.pool (c.copy_bytes.auto.pool ∙ c.deref_mut.ensures.len) in
     rw items (still_heap n pool c.copy_bytes.new.pool fronts fronts p p c.self.invariant ((stores c).blocks fronts p refl c.self.invariant.blocks) refl)
 
-pub returns : goal.returns
-returns c =
+pub returns-clause-lists : goal.returns-clause-lists
+returns-clause-lists c =
     let pool = c.self.inside.pool.items in
     let fronts = c.self.inside.fronts.items in
     let p = c.self.inside.places in
@@ -63,3 +64,8 @@ returns c =
     (after_bytes n pool c.copy_bytes.new.pool fronts p c.args.to 0 bs c.self.invariant l (stores c)
     ∙ ap (λ bytes. with_bytes (shown n pool p) c.args.to 0 bytes) (sym (ap bytes_of k.is))
     ∙ ap (λ h. with_bytes h.lists c.args.to 0 (bytes_at h.lists c.args.from)) c.self.view_is)
+
+pub returns-clause-stay : goal.returns-clause-stay
+returns-clause-stay c =
+    let items = with_items_is c.self.inside.pool c.copy_bytes.new.pool (c.copy_bytes.auto.pool ∙ c.deref_mut.ensures.len) in
+    rw items (subst (λ h. RowsStay h.pool (record { bytes = c.copy_bytes.new.pool; table = c.self.inside.places.table })) c.self.view_is (stores c).stay)

@@ -1,5 +1,5 @@
 -- A row is taken, or added where the pool holds it.
-use Rattle.std.proofs.Common.{◌≡◌, ◌≤◌, ◌∙◌, ℕ, ap, arith}
+use Rattle.std.proofs.Common.{◌≡◌, ◌≤◌, ◌∙◌, ℕ, ap, arith, subst, sym, take, length, ◌*◌, ◌+◌}
 use Rattle.std.specs.Prelude.{Result, Ok, Err, IfOk, OnOk}
 use Rattle.std.proofs.lemmas.Result.{IfOk-weaker, IfErr-weaker}
 use Rattle.std.proofs.lemmas.List.{with_items_is}
@@ -8,6 +8,14 @@ use Rattle.nxt_heap.specs.Lists.{Passes, IsFree, footprint, with_list, with_free
 use Rattle.nxt_heap.specs.Inside.Pool.{Takes, IsRefused}
 use Rattle.nxt_heap.specs.declared.passed.PoolPassed.{PoolPassed}
 use Rattle.nxt_heap.proofs.Changed.{shown, after_taken, footprint_more, taken_fits}
+use Rattle.std.proofs.lemmas.Result.{on_ok_weaker}
+use Rattle.nxt_types.specs.Pool.{round4}
+use Rattle.nxt_rows.specs.Rows.{row_count}
+use Rattle.nxt_heap.specs.Lists.{base_of, any_free}
+use Rattle.nxt_heap.specs.Moves.{GrowsTable}
+use Rattle.nxt_heap.specs.Inside.Pool.{lists_in, pool_at}
+use Rattle.nxt_heap.proofs.ListsKept.{length-lists_in}
+use Rattle.nxt_heap.proofs.Seen.{length_static}
 use Rattle.nxt_heap.proofs.heap.Heap.new_array.Goals as goal
 
 takes : (c : goal.After-self-2-1) → IfOk c.new_list.result (Takes c.self.inside.pool.items c.new_list.new.pool c.new_list.new.fronts c.self.inside.places c.new_list.new.at c.args.stride)
@@ -58,3 +66,19 @@ returns-clause-passed c =
       whole = omega (arith, more, f.whole, ap (λ h. footprint (with_free_row h.lists)) c.self.view_is);
       above = f.above;
     }) refused
+
+pub returns-clause-moves : goal.returns-clause-moves
+returns-clause-moves c =
+    let pool = c.self.inside.pool.items in
+    let fronts = c.self.inside.fronts.items in
+    let p = c.self.inside.places in
+    let n = c.self.inside.static_size in
+    let items = with_items_is c.self.inside.pool c.new_list.new.pool (c.new_list.auto.pool ∙ c.deref_mut.ensures.len) in
+    let base : p.base ≡ round4 (length (take n pool)) = c.self.invariant.base_is ∙ sym (ap round4 (length_static n pool fronts p c.self.invariant)) in
+    let new = pool_at c.new_list.new.pool c.new_list.new.at in
+    let need = rw c.deref_mut.ensures.value at c.new_list.ensures.need in
+    rw items
+    (on_ok_weaker c.new_list.result (λ g.
+    subst (λ h. GrowsTable (base_of h.lists) h.pool new (any_free h.lists.by_row) (round4 (10 * (length h.lists.by_row + 1)))) c.self.view_is
+    (subst (λ m. GrowsTable (round4 (length (take n pool))) (pool_at pool p) new (any_free (lists_in pool p.table)) (round4 (10 * (m + 1)))) (sym (length-lists_in pool p.table))
+    (subst (λ b. GrowsTable b (pool_at pool p) new (any_free (lists_in pool p.table)) (round4 (10 * (row_count pool p.table + 1)))) base g))) need)

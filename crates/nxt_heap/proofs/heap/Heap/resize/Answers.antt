@@ -1,4 +1,4 @@
-use Rattle.std.proofs.Common.{◌≡◌, ◌∙◌, ap, sym, arith, length}
+use Rattle.std.proofs.Common.{◌≡◌, ◌∙◌, ◌≤◌, ap, sym, arith, length, subst, take}
 use Rattle.std.proofs.lemmas.List.{with_items_is}
 use Rattle.nxt_types.specs.Pool.{round4}
 use Rattle.nxt_compact.specs.Pools.{block_bytes}
@@ -6,6 +6,15 @@ use Rattle.nxt_heap.specs.Lists.{footprint, with_length, bytes_at, stride_of}
 use Rattle.nxt_heap.specs.Inside.Pool.{row_bytes, HasLength}
 use Rattle.nxt_heap.proofs.Seen.{lives, list_row, row_inside, footprint_state}
 use Rattle.nxt_heap.proofs.Changed.{shown, still_heap, after_length, size_lived, footprint_length, length_same, footprint_inside, block_inside}
+use Rattle.nxt_heap.specs.Lists.{base_of}
+use Rattle.nxt_heap.specs.Moves.{MovesAtNeed}
+use Rattle.nxt_heap.specs.Inside.Pool.{pool_at}
+use Rattle.nxt_heap.proofs.Needs.{unmoved}
+use Rattle.nxt_heap.proofs.Seen.{length_static}
+use Rattle.nxt_heap.proofs.Windows.{block_is}
+use Rattle.nxt_rows.specs.Rows.{dope_row}
+use Rattle.nxt_heap.specs.Moves.{NoneMoves}
+use Rattle.nxt_heap.proofs.Laws.Moves.{none_same}
 use Rattle.nxt_heap.proofs.heap.Heap.resize.Goals as goal
 
 -- ---- the row
@@ -39,6 +48,21 @@ returns-then-byte_count-bytes-clause-fits c =
     let n = c.self.inside.static_size in
     let same = returns-then-byte_count-bytes-clause-ok c in
     omega (arith, ap footprint same, ap (λ h. footprint h.lists) c.self.view_is, footprint_state n pool fronts p c.self.invariant, footprint_inside n pool fronts p c.self.invariant)
+
+pub returns-then-byte_count-bytes-clause-moves : goal.returns-then-byte_count-bytes-clause-moves
+returns-then-byte_count-bytes-clause-moves c =
+    let pool = c.self.inside.pool.items in
+    let fronts = c.self.inside.fronts.items in
+    let p = c.self.inside.places in
+    let n = c.self.inside.static_size in
+    let l = lives pool p.table c.args.row (rw (← c.self.view_is) at c.requires.alive) in
+    let found = ap row_bytes (rw c.deref.ensures.value at c.get-found.ensures) in
+    let base : p.base ≡ round4 (length (take n pool)) = c.self.invariant.base_is ∙ sym (ap round4 (length_static n pool fronts p c.self.invariant)) in
+    let long : round4 c.args.bytes ≡ block_bytes (dope_row pool p.table c.args.row) =
+    ap round4 (sym c.if-byte_count-bytes.true ∙ c.byte_count.ensures ∙ found) ∙ sym (block_is (dope_row pool p.table c.args.row)) in
+    subst (λ h. MovesAtNeed (base_of h.lists) h.pool h.pool c.args.row (round4 c.args.bytes)) c.self.view_is
+    (subst (λ b. MovesAtNeed b (pool_at pool p) (pool_at pool p) c.args.row (round4 c.args.bytes)) base
+    (unmoved pool p c.args.row (round4 c.args.bytes) c.self.invariant.blocks.is_pool l.within long))
 
 -- ---- a growth that passes the pool
 
@@ -92,7 +116,7 @@ resize_list-requires-clause-fits c =
     (omega (arith, found, c.block_bytes.ensures, c.round4.ensures, c.if-footprint-gt-POOL_BYTES.false, block_inside n pool fronts p c.args.row c.self.invariant l.within))
 
 has : (c : goal.After-self-2-1) → HasLength c.self.inside.pool.items c.resize_list.new.pool c.resize_list.new.fronts c.self.inside.places c.resize_list.new.at c.args.row c.args.bytes
-has c = rw c.deref_mut.ensures.value at c.resize_list.ensures
+has c = rw c.deref_mut.ensures.value at c.resize_list.ensures.length
 
 pub invariant_of-self : goal.invariant_of-self
 invariant_of-self c =
@@ -129,3 +153,35 @@ returns-clause-fits c =
       footprint_state n c.resize_list.new.pool c.resize_list.new.fronts c.resize_list.new.at then,
       footprint_inside n c.resize_list.new.pool c.resize_list.new.fronts c.resize_list.new.at then,
     )
+
+pub returns-clause-moves : goal.returns-clause-moves
+returns-clause-moves c =
+    let pool = c.self.inside.pool.items in
+    let fronts = c.self.inside.fronts.items in
+    let p = c.self.inside.places in
+    let n = c.self.inside.static_size in
+    let items = with_items_is c.self.inside.pool c.resize_list.new.pool (c.resize_list.auto.pool ∙ c.deref_mut.ensures.len) in
+    let base : p.base ≡ round4 (length (take n pool)) = c.self.invariant.base_is ∙ sym (ap round4 (length_static n pool fronts p c.self.invariant)) in
+    let new = pool_at c.resize_list.new.pool c.resize_list.new.at in
+    let need : MovesAtNeed p.base (pool_at pool p) new c.args.row (round4 c.args.bytes) = rw c.deref_mut.ensures.value at c.resize_list.ensures.need in
+    rw items
+    (subst (λ h. MovesAtNeed (base_of h.lists) h.pool new c.args.row (round4 c.args.bytes)) c.self.view_is (subst (λ b. MovesAtNeed b (pool_at pool p) new c.args.row (round4 c.args.bytes)) base need))
+
+-- ---- a list that gets no longer
+
+pub returns-then-byte_count-bytes-clause-shorter : goal.returns-then-byte_count-bytes-clause-shorter
+returns-then-byte_count-bytes-clause-shorter c fits = none_same c.args.self.now.pool
+
+pub returns-clause-shorter : goal.returns-clause-shorter
+returns-clause-shorter c fits =
+    let pool = c.self.inside.pool.items in
+    let fronts = c.self.inside.fronts.items in
+    let p = c.self.inside.places in
+    let n = c.self.inside.static_size in
+    let l = lives pool p.table c.args.row (rw (← c.self.view_is) at c.requires.alive) in
+    let size = size_lived n pool fronts p c.args.row c.self.invariant l in
+    let seen = ap (λ h. length (bytes_at h.lists c.args.row)) c.self.view_is in
+    let items = with_items_is c.self.inside.pool c.resize_list.new.pool (c.resize_list.auto.pool ∙ c.deref_mut.ensures.len) in
+    let new = pool_at c.resize_list.new.pool c.resize_list.new.at in
+    let less : round4 c.args.bytes ≤ block_bytes (dope_row pool p.table c.args.row) = omega (arith, fits, size, seen, block_is (dope_row pool p.table c.args.row)) in
+    rw items (subst (λ h. NoneMoves h.pool new) c.self.view_is ((rw c.deref_mut.ensures.value at c.resize_list.ensures.shorter) less))

@@ -1,9 +1,10 @@
-use Rattle.std.proofs.Common.{◌∙◌, ap, arith, length, refl}
+use Rattle.std.proofs.Common.{◌∙◌, ap, arith, length, refl, subst}
 use Rattle.std.proofs.lemmas.List.{with_items_is}
 use Rattle.nxt_heap.specs.Lists.{with_bytes, bytes_at}
 use Rattle.nxt_heap.specs.Inside.Pool.{Stores}
 use Rattle.nxt_heap.proofs.Seen.{Lives, lives, list_row}
 use Rattle.nxt_heap.proofs.Changed.{size_lived, after_bytes, still_heap}
+use Rattle.nxt_heap.specs.Moves.{RowsStay}
 use Rattle.nxt_heap.proofs.heap.Heap.write.Goals as goal
 
 living : (c : goal.After-deref_mut) → Lives c.self.inside.pool.items c.self.inside.places.table c.args.row
@@ -38,8 +39,8 @@ invariant_of-self c =
     let items = with_items_is c.self.inside.pool c.write_bytes.new.pool (c.write_bytes.auto.pool ∙ c.deref_mut.ensures.len) in
     rw items (still_heap n pool c.write_bytes.new.pool fronts fronts p p c.self.invariant ((stores c).blocks fronts p refl c.self.invariant.blocks) refl)
 
-pub returns : goal.returns
-returns c =
+pub returns-clause-lists : goal.returns-clause-lists
+returns-clause-lists c =
     let pool = c.self.inside.pool.items in
     let fronts = c.self.inside.fronts.items in
     let p = c.self.inside.places in
@@ -49,3 +50,8 @@ returns c =
     rw items
     (after_bytes n pool c.write_bytes.new.pool fronts p c.args.row c.args.at c.args.bytes.now c.self.invariant l (stores c)
     ∙ ap (λ h. with_bytes h.lists c.args.row c.args.at c.args.bytes.now) c.self.view_is)
+
+pub returns-clause-stay : goal.returns-clause-stay
+returns-clause-stay c =
+    let items = with_items_is c.self.inside.pool c.write_bytes.new.pool (c.write_bytes.auto.pool ∙ c.deref_mut.ensures.len) in
+    rw items (subst (λ h. RowsStay h.pool (record { bytes = c.write_bytes.new.pool; table = c.self.inside.places.table })) c.self.view_is (stores c).stay)

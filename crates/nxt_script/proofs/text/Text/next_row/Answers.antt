@@ -1,25 +1,41 @@
-use Rattle.std.proofs.Common.{◌≡◌, [], ap, ◌∙◌, false, Some}
+use Rattle.std.proofs.Common.{Ok, ap, subst}
 use Rattle.std.proofs.lemmas.Result.{err_from_is_err_and}
-use Rattle.nxt_model.specs.Report.{Whole}
-use Rattle.nxt_script.specs.Rows.{rows_from, no_rows}
-use Rattle.nxt_script.proofs.RowsLaw.{rows_from-nil}
+use Rattle.csv.specs.Records.{fields_of}
+use Rattle.nxt_script.specs.Inside.{FindsFields, FindsRecord}
+use Rattle.nxt_script.proofs.Calls.{Reads-passed}
+use Rattle.nxt_script.proofs.NextRow.{counted_row, counted_fault}
 use Rattle.nxt_script.proofs.text.Text.next_row.Goals as goal
 
-pub returns-in_err-count-clause-err : goal.returns-in_err-count-clause-err
-returns-in_err-count-clause-err c =
-    let p = err_from_is_err_and c.from_residual-in_err-count.result c.from_residual-in_err-count.ensures.1 in
-    let fault = c.in_err-count.ensures.err in
-    rw (p.1, p.2) (rw (c.loop-alloc.invariant.same, c.in_ok-fields.ensures.ok, c.in-Some.is) (fault.0 _), fault.1)
+pub returns-in_err-fields-clause-finds : goal.returns-in_err-fields-clause-finds
+returns-in_err-fields-clause-finds g c =
+    let p = err_from_is_err_and c.from_residual.result c.from_residual.ensures.1 in
+    let finds = c.in_err-fields.ensures.finds in
+    rw (p.1, p.2) (finds.0, finds.1, finds.2, finds.3)
 
-pub returns-clause-ok : goal.returns-clause-ok
-returns-clause-ok c =
-    let last = c.loop-alloc.self in
-    let none : last.1 ≡ [] = c.is_at_end.ensures.end.0 c.loop-alloc-test.false in
-    let end : rows_from last.0 last.1 ≡ no_rows (Whole last.0.records) false = ap (rows_from last.0) none ∙ rows_from-nil last.0 c.is_at_end.ensures.within in
-    let same : last.0.records ≡ c.args.self.now.0.records = c.loop-alloc.invariant.rows in
-    let whole : rows_from last.0 last.1 ≡ no_rows (Whole c.args.self.now.0.records) false = end ∙ ap (λ n. no_rows (Whole n) false) same in
-    record {
-      end = c.loop-alloc.invariant.same ∙ whole;
-      still = ap (λ l. Some l) whole;
-      given = same;
-    }
+pub returns-in_err-count-clause-finds : goal.returns-in_err-count-clause-finds
+returns-in_err-count-clause-finds g c =
+    let p = err_from_is_err_and c.from_residual-in_err-count.result c.from_residual-in_err-count.ensures.1 in
+    let a = c.args.self.now in
+    let b = c.next_record.new.self in
+    let finds = c.in_ok-fields.ensures.finds in
+    let found : FindsFields a b finds.0 (fields_of c.in-Some.fields) = subst (λ o. FindsRecord a b finds.0 (Ok o)) c.in-Some.is finds.3 in
+    let err = c.in_err-count.ensures.err in
+    rw (p.1, p.2) (
+      finds.0,
+      Reads-passed a b c.count.new.self _ _ finds.0 finds.1 (ap (λ f. f.ended) err.0),
+      finds.2,
+      counted_fault a b c.count.new.self finds.0 (fields_of c.in-Some.fields) found c.in_err-count.field-0.0 err.0 err.1,
+    )
+
+pub returns-clause-finds : goal.returns-clause-finds
+returns-clause-finds g c =
+    let a = c.args.self.now in
+    let b = c.next_record.new.self in
+    let finds = c.in_ok-fields.ensures.finds in
+    let found : FindsFields a b finds.0 (fields_of c.in-Some.fields) = subst (λ o. FindsRecord a b finds.0 (Ok o)) c.in-Some.is finds.3 in
+    let ok = c.in_ok-count.ensures.ok in (
+      finds.0,
+      Reads-passed a b c.count.new.self _ _ finds.0 finds.1 (ap (λ f. f.ended) ok.2),
+      finds.2,
+      counted_row a b c.count.new.self finds.0 (fields_of c.in-Some.fields) found c.in_ok-count.field-0 ok.0 ok.1 ok.2 c.in_ok-count.ensures.few,
+    )

@@ -1,0 +1,137 @@
+// Calls of a heap that look first whether they may be made, and what its lists hold.
+
+use nxt_heap::{Heap, PoolPassed};
+use std::alloc::Global;
+use std::process::Abort;
+use std::test::Fail;
+
+/// Gives a list another number of bytes; a row without a list counts as one that the pool doesn't hold.
+pub(crate) fn resize(
+    rt: &impl Abort,
+    heap: &mut Heap,
+    row: u16,
+    bytes: u32,
+) -> Result<(), PoolPassed> {
+    match heap.stride(row) {
+        None => Err(PoolPassed(0)),
+        Some(stride) => {
+            assert!(rt; stride > 0);
+            assert!(rt; bytes % u32::from(stride) == 0);
+            heap.resize(row, bytes)
+        }
+    }
+}
+
+/// Gives a list these bytes; a row without a list counts as one that the pool doesn't hold.
+pub(crate) fn set_list(
+    rt: &impl Abort,
+    heap: &mut Heap,
+    row: u16,
+    bytes: &[u8],
+) -> Result<(), PoolPassed> {
+    match heap.stride(row) {
+        None => Err(PoolPassed(0)),
+        Some(stride) => {
+            assert!(rt; stride > 0);
+            assert!(rt; bytes.len() < 65536);
+            assert!(rt; bytes.len() % usize::from(stride) == 0);
+            heap.set_list(row, bytes)
+        }
+    }
+}
+
+/// Gives a list of single bytes these and a zero behind them.
+pub(crate) fn set_text(
+    rt: &impl Abort,
+    heap: &mut Heap,
+    row: u16,
+    bytes: &[u8],
+) -> Result<(), PoolPassed> {
+    match heap.stride(row) {
+        None => Err(PoolPassed(0)),
+        Some(stride) => {
+            assert!(rt; stride == 1);
+            assert!(rt; bytes.len() < 65536);
+            heap.set_text(row, bytes)
+        }
+    }
+}
+
+/// Gives a list the bytes of another one.
+pub(crate) fn copy_list(
+    rt: &impl Abort,
+    heap: &mut Heap,
+    to: u16,
+    from: u16,
+) -> Result<(), PoolPassed> {
+    match (heap.stride(to), heap.stride(from)) {
+        (Some(stride), Some(_)) => {
+            assert!(rt; stride > 0);
+            assert!(rt; heap.bytes_of(from).len() % usize::from(stride) == 0);
+            heap.copy_list(to, from)
+        }
+        _ => Err(PoolPassed(0)),
+    }
+}
+
+/// Frees a list.
+pub(crate) fn free(rt: &impl Abort, heap: &mut Heap, row: u16) {
+    match heap.stride(row) {
+        None => assert!(rt; false, "row {row} has no list"),
+        Some(_) => heap.free_array(row),
+    }
+}
+
+// A byte that differs from row to row and from place to place.
+fn mark(row: u16, at: usize) -> u8 {
+    ((row as usize * 89 + at % 251) % 251 + 1) as u8
+}
+
+/// Fills a list of so many bytes with its marks.
+pub(crate) fn write_marks(
+    rt: &impl Abort,
+    alloc: Global,
+    heap: &mut Heap,
+    row: u16,
+    bytes: u32,
+) -> Result<(), Fail> {
+    let mut marks = Vec::new(alloc);
+    for at in 0..bytes as usize {
+        marks.push(mark(row, at))?;
+    }
+    match heap.stride(row) {
+        None => assert!(rt; false, "row {row} has no list"),
+        Some(_) => {
+            let len = heap.bytes_of(row).len();
+            assert!(rt; marks.len() <= len);
+            heap.write(row, 0, marks.as_slice());
+        }
+    }
+    Ok(())
+}
+
+/// The list has that many bytes: its marks first, and then zeros.
+pub(crate) fn expect_list(rt: &impl Abort, heap: &Heap, row: u16, marks: usize, bytes: usize) {
+    match heap.stride(row) {
+        None => assert!(rt; false, "row {row} has no list"),
+        Some(_) => {
+            let found = heap.bytes_of(row);
+            assert_eq!(rt; found.len(), bytes, "bytes of row {row}");
+            for (at, &byte) in found.iter().enumerate() {
+                assert_eq!(rt;
+                    byte,
+                    if at < marks { mark(row, at) } else { 0 },
+                    "row {row} at {at}"
+                );
+            }
+        }
+    }
+}
+
+/// The list has these bytes.
+pub(crate) fn expect_bytes(rt: &impl Abort, heap: &Heap, row: u16, bytes: &[u8]) {
+    match heap.stride(row) {
+        None => assert!(rt; false, "row {row} has no list"),
+        Some(_) => assert_eq!(rt; heap.bytes_of(row), bytes, "row {row}"),
+    }
+}
