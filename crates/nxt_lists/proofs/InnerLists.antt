@@ -1,5 +1,6 @@
 -- Lists of lists of numbers, whose elements are stored as they are.
 use Rattle.std.proofs.Common.{◌≡◌, ℕ, ◌≤◌, zero, suc, Bool, true, List, [], ◌∷◌, map, set, get_or, length, Option, Some, None, Ok, IsSome, refl, sym, ap, ap₂, ◌∙◌, subst}
+use Rattle.std.specs.Prelude.{pos}
 use Rattle.std.specs.List.{list_all}
 use Rattle.std.proofs.lemmas.Bool.{and_from, and_parts}
 use Rattle.std.proofs.lemmas.Bool.Decides.{Decides-int_eq}
@@ -32,12 +33,12 @@ all_same kept of same (v ∷ vs) e =
 -- is stored as it is
 mutual
   stored_same : (s : Shape) (v : Value) → is_of s v ≡ true → stored s v ≡ v
-  stored_same Void v e = refl
+  stored_same Void (Num z) e = ap Num (sym ((Decides-int_eq z (pos 0)).0 e))
   stored_same (Number k) (Num z) e = ap Num ((Decides-int_eq (cut k z) z).0 e)
   stored_same (Array n s) (ListOf vs) e =
       ap (λ ws. list_of ws) (all_same (stored s) (is_of s) (λ v of. stored_same s v of) (items vs) e) ∙ ap ListOf (values-items vs)
   stored_same (Cluster ss) (GroupOf vs) e = ap GroupOf (members_same ss vs e)
-  stored_same Mutex v e = refl
+  stored_same Mutex (Num z) e = ap Num (sym ((Decides-int_eq z (pos 0)).0 e))
   stored_same s v e = let f : ⊥ = cc in absurd f
 
   members_same : (ss : Members) (vs : Values) → are_of ss (items vs) ≡ true → stored_members ss (items vs) ≡ vs

@@ -12,9 +12,10 @@ use Rattle.nxt_model.specs.Means.Arrays.{pieces}
 use Rattle.nxt_model.specs.Means.Effects.{Given}
 use Rattle.nxt_model.specs.Values.{Value, elements, list_of, stored}
 use Rattle.nxt_model.proofs.Laws.Values.{items-values}
-use Rattle.nxt_space.specs.Spots.{IsListSpot, numbers_in_bytes}
+use Rattle.nxt_space.specs.Spots.{IsSpot, IsListSpot, numbers_in_bytes}
 use Rattle.nxt_space.specs.Variables.{Variables, AreSound, shape_of, value_of}
 use Rattle.nxt_space.specs.declared.spots.ListSpot.{ListSpot}
+use Rattle.nxt_space.specs.declared.spots.Spot.{Spot}
 use Rattle.nxt_operands.specs.Operands.{given}
 use Rattle.nxt_lists.specs.InBytes.{AreStored}
 use Rattle.nxt_lists.specs.Joined.{IsPiece, numbers_given}
@@ -56,6 +57,13 @@ all_more P xs n d less all one =
 -- a list is the first of its sources
 pub list_first : (s : Variables) (dest : ℕ) (to : ListSpot) (sources : List ℕ) → IsListSpot s dest to → pieces_of s dest (dest ∷ sources) ≡ elements (value_of s dest) ++ pieces_of s dest sources
 list_first s dest to sources mine = ap (λ vs. vs ++ pieces_of s dest sources) (piece_gives s dest dest to (Each to) mine (mine, refl))
+
+-- and a number is the other one
+pub number_behind : (s : Variables) (dest j : ℕ) (to : ListSpot) (number : Spot) (sources : List ℕ) → IsListSpot s dest to → IsSpot s j number → sources ≡ dest ∷ j ∷ [] → pieces_of s dest sources ≡ elements (value_of s dest) ++ value_of s j ∷ []
+number_behind s dest j to number sources mine is are =
+    ap (pieces_of s dest) are
+    ∙ list_first s dest to (j ∷ []) mine
+    ∙ ap (λ vs. elements (value_of s dest) ++ (vs ++ [])) (piece_gives s dest j to (Single number) mine is)
 
 pub list_extended : (s : Variables) (i : ℕ) (to : ListSpot) (more : List ℕ) (us : List Value) → AreSound s → IsListSpot s i to → AreStored to.kind more us → list_of (elements (value_of s i) ++ elements (numbers_in_bytes to.kind more)) ≡ stored (shape_of s i) (list_of (elements (value_of s i) ++ us))
 list_extended s i to more us sound mine e =

@@ -90,6 +90,18 @@ bytes_counted {k} {bytes} {vs} e =
     let many : length bytes / leaf_size k ≡ length vs = numbers_counted k bytes ∙ ap length e.are ∙ length-map vs (stored (Number k)) in
     whole_numbers k (length bytes) e.whole ∙ ap (λ n. n * leaf_size k) many
 
+-- one number is short
+few_of_one : (k : Kind) → 1 * leaf_size k < 2 ^ 31
+few_of_one Ubyte = omega arith
+few_of_one Sbyte = omega arith
+few_of_one Uword = omega arith
+few_of_one Sword = omega arith
+few_of_one Ulong = omega arith
+few_of_one Slong = omega arith
+
+pub one_few : (k : Kind) (bytes : List ℕ) (v : Value) → AreStored k bytes (v ∷ []) → length bytes < 2 ^ 31
+one_few k bytes v e = let counted = bytes_counted e in omega (arith, counted, few_of_one k)
+
 numbers_listed : (k : Kind) (bytes : List ℕ) → list_of (elements (numbers_in_bytes k bytes)) ≡ numbers_in_bytes k bytes
 numbers_listed k bytes = ap ListOf (values-items _)
 

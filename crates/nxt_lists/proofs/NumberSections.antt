@@ -111,6 +111,10 @@ one_stored k w v is =
           ∙ ap (λ x. x ∷ []) (ap (λ n. stored (Number k) (Num (pos n))) is ∙ stored_word (Number k) (number v) refl);
     }
 
+pub number_stored : (k j : Kind) (w : ℕ) (v : Value) (bytes : List ℕ) → j ≡ k → bytes ≡ bytes_of_number j (pos w) → w ≡ word (number v) → AreStored k bytes (v ∷ [])
+number_stored k j w v bytes same are is =
+    subst (λ bs. AreStored k bs (v ∷ [])) (sym (are ∙ ap (λ i. bytes_of_number i (pos w)) same)) (one_stored k w v is)
+
 -- the bytes of a list's elements
 pub all_stored : (k : Kind) (bytes : List ℕ) (v : Value) → length bytes % leaf_size k ≡ 0 → v ≡ numbers_in_bytes k bytes → AreStored k bytes (elements v)
 all_stored k bytes v whole is =

@@ -14,7 +14,7 @@ ghost use Rattle.nxt_operands.specs.Operands.{Done, given, place_of, values_stor
 ghost use Rattle.nxt_lists.specs.Pieces.{pieces_of, many_filled, size_of_each};
 
 use crate::gathering::push_pieces;
-use crate::joining::{count_numbers, store_joined};
+use crate::joining::{append_number, appended, count_numbers, store_joined};
 use crate::numbers::store_copies;
 use nxt_operands::reading::flat_of;
 use nxt_operands::storing::{check_room, store};
@@ -37,6 +37,9 @@ pub fn build(alloc: Global, space: &mut Space, dest: u16, sources: &[u16]) -> Re
     ensures leaves { Leaves (dest ∷ []) space.old space.new }
 {
     if let Some(to) = space.list_spot(dest) {
+        if let Some(number) = appended(space, dest, sources) {
+            return append_number(space, dest, to, number);
+        }
         if let Some(count) = count_numbers(space, dest, to, sources) {
             return store_joined(alloc, space, dest, to, sources, count);
         }

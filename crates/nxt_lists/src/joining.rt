@@ -1,12 +1,13 @@
 // Lists of numbers that stand one behind another, built of numbers and of such lists.
 
-ghost use Rattle.std.specs.Prelude.{◌≡◌, ◌++◌, ◌*◌, ◌≤◌, ◌<◌, ◌^◌, ℕ, List, None, length, All, IfOk, IfSome, OnOk, ◌∷◌, []};
+ghost use Rattle.std.specs.Prelude.{◌≡◌, false, ◌++◌, ◌*◌, ◌≤◌, ◌<◌, ◌^◌, ℕ, List, None, length, All, IfOk, IfSome, OnOk, ◌∷◌, []};
 ghost use Rattle.nxt_types.specs.Arithmetic.{leaf_size as size_of_leaf};
+ghost use Rattle.nxt_types.specs.Shapes.{is_number};
 ghost use Rattle.nxt_types.specs.declared.kind.Kind.{Kind};
 ghost use Rattle.nxt_model.specs.Values.{Value, elements, list_of, stored};
 ghost use Rattle.nxt_space.specs.Keeping.{Leaves};
 ghost use Rattle.nxt_space.specs.Outcomes.{Does};
-ghost use Rattle.nxt_space.specs.Spots.{IsListSpot};
+ghost use Rattle.nxt_space.specs.Spots.{IsSpot, IsListSpot};
 ghost use Rattle.nxt_space.specs.Variables.{AreSound, shape_of, value_of, with_value};
 ghost use Rattle.nxt_operands.specs.Operands.{Done};
 ghost use Rattle.nxt_lists.specs.InBytes.{AreStored};
@@ -14,7 +15,7 @@ ghost use Rattle.nxt_lists.specs.Joined.{IsPiece, GivesNumbers, numbers_given};
 ghost use Rattle.nxt_lists.specs.Pieces.{pieces_of};
 
 use crate::numbers::store_numbers;
-use nxt_operands::lists::push_number;
+use nxt_operands::lists::{number_bytes, push_number};
 use nxt_operands::storing::check_room;
 use nxt_space::{ListSpot, OpFault, Space, Spot};
 use nxt_types::kind::Kind;
@@ -68,6 +69,35 @@ impl Piece {
             Piece::Each(list) => into.append(space.bytes(list)),
         }
     }
+}
+
+/// The number that is added to a list, where the sources are that list and one number; `None` where they are any others.
+pub fn appended(space: &Space, dest: u16, sources: &[u16]) -> Option<Spot>
+    ensures found { IfSome result (λ number. (j : ℕ) × (sources.now ≡ dest ∷ j ∷ []) × IsSpot space.now.vars j number) }
+    ensures none { result ≡ None → (j : ℕ) → sources.now ≡ dest ∷ j ∷ [] → is_number (shape_of space.now.vars j) ≡ false }
+{
+    match sources {
+        [first, second] if *first == dest => space.spot(*second),
+        _ => None,
+    }
+}
+
+/// Adds a number to a list of numbers. It takes no memory.
+pub fn append_number(
+    space: &mut Space,
+    dest: u16,
+    to: ListSpot,
+    number: Spot,
+) -> Result<(), OpFault>
+    requires sound { AreSound space.old.vars }
+    requires dest { IsListSpot space.old.vars dest to }
+    requires number { (j : ℕ) × IsSpot space.old.vars j number }
+    ensures does { (j : ℕ) → IsSpot space.old.vars j number → Does Done (with_value space.old.vars dest (stored (shape_of space.old.vars dest) (list_of (elements (value_of space.old.vars dest) ++ value_of space.old.vars j ∷ [])))) space.old result space.new }
+    ensures leaves { Leaves (dest ∷ []) space.old space.new }
+{
+    let word = space.word(number).to_le_bytes();
+    space.extend_list(to, number_bytes(to.kind(), &word))?;
+    Ok(())
 }
 
 /// How many numbers all sources give for a list of numbers; `None` where one gives anything else.

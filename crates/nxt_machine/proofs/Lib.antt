@@ -6,3 +6,9 @@ mod Meanings
 mod Kept
 -- Programs and machines that are made.
 mod Making
+-- Bytes in lines of 64.
+mod Dumped
+-- What a dump would show behind bytecodes and other events.
+mod Obeying
+-- What a statement leaves in its place in the pool.
+mod Keeping

@@ -6,5 +6,7 @@ pub mod Programs
 pub mod Statements
 -- The statements of a turn that were made ready.
 pub mod Turns
+-- What stays where it is in the pool, by the parts that are written.
+pub mod Keeping
 -- Ports that an operand names, as they are kept.
 pub mod Ports

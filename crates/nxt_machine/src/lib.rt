@@ -2,6 +2,7 @@
 //! Executable File Specification, "Virtual Machine").
 #![tactic(auto)]
 
+mod dumping;
 mod machine;
 mod naming;
 mod ports;

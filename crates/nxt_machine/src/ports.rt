@@ -7,6 +7,7 @@ ghost use Rattle.nxt_types.specs.Shapes.{is_number};
 ghost use Rattle.nxt_types.specs.Statements.{IsWhole, statement_of};
 ghost use Rattle.nxt_model.specs.Devices.{set_in, get_in, get_out, motor_at, with_motor};
 ghost use Rattle.nxt_model.specs.Values.{Num, stored};
+ghost use Rattle.nxt_space.specs.Keeping.{TableStays};
 ghost use Rattle.nxt_space.specs.Variables.{AreSound, name_of, shape_of, with_value};
 ghost use Rattle.nxt_machine.specs.Numbers.{number_at, with_pairs, ports_at, is_among, set_motor_by, set_motors_by};
 ghost use Rattle.nxt_machine.specs.Inside.Ports.{ports_in};
@@ -191,7 +192,8 @@ pub(crate) fn set_input(space: &Space, io: &mut Io, instr: &Instr)
 pub(crate) fn get_input(space: &mut Space, io: &Io, instr: &Instr)
     requires number { is_number (shape_of space.old.vars instr.now.a) ≡ true }
     requires property { instr.now.c < 256 }
-    ensures { space.new.vars ≡ record space.old.vars { values = with_value space.old.vars instr.now.a (stored (shape_of space.old.vars instr.now.a) (Num (get_in (word (number_at space.old.vars instr.now.b)) instr.now.c io.now))) } }
+    ensures value { space.new.vars ≡ record space.old.vars { values = with_value space.old.vars instr.now.a (stored (shape_of space.old.vars instr.now.a) (Num (get_in (word (number_at space.old.vars instr.now.b)) instr.now.c io.now))) } }
+    ensures stays { TableStays space.old space.new }
 {
     io.is_sound();
     let x = io.get_in(port_at(space, instr.b), property(instr.c));
@@ -202,7 +204,8 @@ pub(crate) fn get_input(space: &mut Space, io: &Io, instr: &Instr)
 pub(crate) fn get_output(space: &mut Space, io: &Io, instr: &Instr)
     requires number { is_number (shape_of space.old.vars instr.now.a) ≡ true }
     requires property { instr.now.c < 256 }
-    ensures { space.new.vars ≡ record space.old.vars { values = with_value space.old.vars instr.now.a (stored (shape_of space.old.vars instr.now.a) (Num (get_out (word (number_at space.old.vars instr.now.b)) instr.now.c io.now))) } }
+    ensures value { space.new.vars ≡ record space.old.vars { values = with_value space.old.vars instr.now.a (stored (shape_of space.old.vars instr.now.a) (Num (get_out (word (number_at space.old.vars instr.now.b)) instr.now.c io.now))) } }
+    ensures stays { TableStays space.old space.new }
 {
     io.is_sound();
     let x = io.get_out(port_at(space, instr.b), property(instr.c));

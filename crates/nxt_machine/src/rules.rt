@@ -4,6 +4,7 @@ ghost use Rattle.std.specs.Prelude.{◌≡◌, ◌<◌, ◌≤◌, ◌^◌, ℕ,
 ghost use Rattle.nxt_types.specs.Statements.{statement_of};
 ghost use Rattle.nxt_model.specs.Clumps.{wait};
 ghost use Rattle.nxt_types.specs.declared.instr.Op.TheVariants as op;
+ghost use Rattle.nxt_space.specs.Keeping.{TableStays};
 ghost use Rattle.nxt_clumps.specs.Answers.{stop_of as stop_for, stop_in as stop_told};
 ghost use Rattle.nxt_clumps.specs.Clumps.{head};
 ghost use Rattle.nxt_machine.specs.Inside.Programs.{IsProgram, AreClumpsOf, image_in};
@@ -28,6 +29,7 @@ fn rule(program: &mut Program, clumps: &mut Clumps, clock: u64, h: u8, i: &Instr
     requires at { (k word : ℕ) × slice_get program.old.code.decoded.placed.items k ≡ Some (record { word = word; instr = i.now }) }
     ensures ruled { IsRuled clock h (statement_of i.now program.old.code.words) program.old.space.vars program.new.space.vars clumps.old clumps.new result }
     ensures program { IsProgram program.new }
+    ensures stays { TableStays program.old.space program.new.space }
     ensures image { image_in program.new ≡ image_in program.old }
     ensures code { program.new.code ≡ program.old.code }
 {
@@ -67,6 +69,7 @@ fn call(program: &mut Program, clumps: &mut Clumps, h: u8, i: &Instr) -> Option<
     requires at { (k word : ℕ) × slice_get program.old.code.decoded.placed.items k ≡ Some (record { word = word; instr = i.now }) }
     ensures ruled { (clock : ℕ) → IsRuled clock h (statement_of i.now program.old.code.words) program.old.space.vars program.new.space.vars clumps.old clumps.new result }
     ensures program { IsProgram program.new }
+    ensures stays { TableStays program.old.space program.new.space }
     ensures image { image_in program.new ≡ image_in program.old }
     ensures code { program.new.code ≡ program.old.code }
 {
@@ -131,6 +134,7 @@ pub(crate) fn go_on(
     requires at { slice_get program.old.code.decoded.placed.items place ≡ Some placed }
     ensures goes { GoesOn clock h place (statement_of placed.instr program.old.code.words) did program.old.space.vars program.new.space.vars clumps.old clumps.new result }
     ensures program { IsProgram program.new }
+    ensures stays { TableStays program.old.space program.new.space }
     ensures image { image_in program.new ≡ image_in program.old }
     ensures clumps { AreClumpsOf program.new clumps.new }
     ensures turn { clumps.new.state.turn < 20 }

@@ -8,6 +8,8 @@ ghost use Rattle.nxt_types.specs.declared.instr.Op.TheVariants as op;
 ghost use Rattle.nxt_model.specs.Devices.{Devices};
 ghost use Rattle.nxt_model.specs.SystemCalls.{Clock as Moments};
 ghost use Rattle.nxt_model.specs.declared.line.Line.{Line};
+ghost use Rattle.nxt_space.specs.Keeping.{TableStays};
+ghost use Rattle.nxt_machine.specs.Inside.Keeping.{StatementStays};
 ghost use Rattle.nxt_machine.specs.Inside.Programs.{IsProgram, image_in};
 ghost use Rattle.nxt_sys.specs.Calls.{clock_of};
 ghost use Rattle.nxt_machine.specs.Inside.Statements.{Performs, IsDone};
@@ -51,6 +53,7 @@ pub(crate) fn perform(
         (record { vars = program.old.space.vars; devices = io.old; lines = out.old.lines })
         (record { vars = program.new.space.vars; devices = io.new; lines = out.new.lines })) }
     ensures program { IsProgram program.new }
+    ensures stays { StatementStays (clock_of clock) (statement_of placed.instr program.old.code.words) io.old program.old.space program.new.space }
     ensures image { image_in program.new ≡ image_in program.old }
     ensures code { program.new.code ≡ program.old.code }
 {
@@ -84,6 +87,7 @@ fn act(
         (record { vars = program.old.space.vars; devices = io.old; lines = out.old.lines })
         (record { vars = program.new.space.vars; devices = io.new; lines = out.new.lines })) }
     ensures program { IsProgram program.new }
+    ensures stays { TableStays program.old.space program.new.space }
     ensures image { image_in program.new ≡ image_in program.old }
     ensures code { program.new.code ≡ program.old.code }
 {
@@ -131,6 +135,7 @@ fn call(
         (record { vars = program.old.space.vars; devices = io.old; lines = out.old.lines })
         (record { vars = program.new.space.vars; devices = io.new; lines = out.new.lines })) }
     ensures program { IsProgram program.new }
+    ensures stays { StatementStays (clock_of clock) (statement_of placed.instr program.old.code.words) io.old program.old.space program.new.space }
     ensures image { image_in program.new ≡ image_in program.old }
     ensures code { program.new.code ≡ program.old.code }
 {
@@ -156,6 +161,7 @@ fn compute(
     ensures did { IfOk result (λ did. (d : Devices) (lines : List Line) (t : Moments) → Performs program.old.code.words place placed.word t (statement_of placed.instr program.old.code.words)
         (record { vars = program.old.space.vars; devices = d; lines = lines }) (record { vars = program.new.space.vars; devices = d; lines = lines }) did) }
     ensures program { IsProgram program.new }
+    ensures stays { (d : Devices) (t : Moments) → StatementStays t (statement_of placed.instr program.old.code.words) d program.old.space program.new.space }
     ensures image { image_in program.new ≡ image_in program.old }
     ensures code { program.new.code ≡ program.old.code }
 {
@@ -184,6 +190,7 @@ fn arrange(
     ensures did { IfOk result (λ did. (d : Devices) (lines : List Line) (t : Moments) → Performs program.old.code.words place placed.word t (statement_of placed.instr program.old.code.words)
         (record { vars = program.old.space.vars; devices = d; lines = lines }) (record { vars = program.new.space.vars; devices = d; lines = lines }) did) }
     ensures program { IsProgram program.new }
+    ensures stays { (d : Devices) (t : Moments) → StatementStays t (statement_of placed.instr program.old.code.words) d program.old.space program.new.space }
     ensures image { image_in program.new ≡ image_in program.old }
     ensures code { program.new.code ≡ program.old.code }
 {

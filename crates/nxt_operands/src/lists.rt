@@ -1,7 +1,7 @@
 // Lists of numbers that stand in their place, one number behind another.
 
 ghost use Rattle.std.specs.Prelude.{◌≡◌, ◌<◌, ◌≤◌, length, take, ◌++◌, ◌∷◌, [], ℕ, pos, slice_index_or, slice_set, IfSome, None, OnOk, Ok};
-ghost use Rattle.std.specs.Int.{from_le_bytes};
+ghost use Rattle.std.specs.Int.{from_le_bytes, to_le_bytes, w32};
 ghost use Rattle.nxt_types.specs.Shapes.{Array, Number};
 ghost use Rattle.nxt_types.specs.declared.kind.Kind.{Kind};
 ghost use Rattle.nxt_types.specs.Arithmetic.{leaf_size as size_of_leaf, width_of, word};
@@ -62,12 +62,14 @@ pub fn put(space: &mut Space, list: ListSpot, k: u32, x: Spot)
 pub fn push_number(into: &mut Bytes, kind: Kind, word: u32) -> Result<(), NoMemory>
     ensures { OnOk result (into.new ≡ into.old ++ bytes_of_number kind (pos word)) }
 {
-    let bytes = word.to_le_bytes();
-    match kind {
-        Kind::Ubyte | Kind::Sbyte => into.append(&bytes[..1]),
-        Kind::Uword | Kind::Sword => into.append(&bytes[..2]),
-        Kind::Ulong | Kind::Slong => into.append(&bytes),
-    }
+    into.append(number_bytes(kind, &word.to_le_bytes()))
+}
+
+/// The bytes of a number of a kind, the low ones first, among those of its word. It takes no memory.
+pub fn number_bytes(kind: Kind, word: &[u8; 4]) -> &[u8]
+    ensures { (w : ℕ) → word.now ≡ to_le_bytes w32 w → result.now ≡ bytes_of_number kind (pos w) }
+{
+    &word[..leaf_size(kind) as usize]
 }
 
 /// How many numbers of a kind stand in bytes.

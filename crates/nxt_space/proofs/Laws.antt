@@ -18,3 +18,5 @@ pub mod InBytes
 pub mod Keeping
 -- Lists of numbers whose bytes are joined and cut.
 pub mod JoinedBytes
+-- What a dump would show behind a bytecode or a compaction.
+pub mod Obeying

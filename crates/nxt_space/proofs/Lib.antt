@@ -1,4 +1,4 @@
 mod Parts
-mod Start
-mod Pool
+pub mod Start
+pub mod Pool
 pub mod Laws

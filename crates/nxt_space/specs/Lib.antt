@@ -4,3 +4,4 @@ pub mod Inside
 pub mod Spots
 pub mod Keeping
 pub mod Dumping
+pub mod Settling

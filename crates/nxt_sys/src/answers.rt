@@ -1,14 +1,14 @@
 // What calls store in the members of their clusters.
 
-ghost use Rattle.std.specs.Prelude.{◌≡◌, ◌∷◌, ◌<◌, ◌^◌, [], length, Ok, Some};
+ghost use Rattle.std.specs.Prelude.{◌≡◌, ◌∷◌, ◌<◌, ◌^◌, [], ℕ, length, Ok};
 ghost use Rattle.nxt_types.specs.declared.calls.Call.TheVariants as calls;
+ghost use Rattle.nxt_types.specs.declared.calls.Field.TheVariants.{Text};
 ghost use Rattle.nxt_model.specs.Values.{Num, byte_list};
-ghost use Rattle.nxt_space.specs.Keeping.{TableStays};
+ghost use Rattle.nxt_space.specs.Keeping.{TableStays, Leaves};
 ghost use Rattle.nxt_space.specs.Outcomes.{Does};
 ghost use Rattle.nxt_operands.specs.Operands.{Done};
-ghost use Rattle.nxt_sys.specs.Keeping.{LeavesAfter};
 ghost use Rattle.nxt_sys.specs.Answers.{with_members};
-ghost use Rattle.nxt_sys.specs.Fields.{HasCluster};
+ghost use Rattle.nxt_sys.specs.Fields.{HasCluster, IsMember};
 
 use crate::fields::{entry_of, set};
 use nxt_space::{OpFault, Space};
@@ -36,7 +36,7 @@ pub fn answer_message(
     requires cluster { HasCluster space.old.vars calls.ReadMessage cluster }
     requires few { length message.now < 2 ^ 32 }
     ensures does { Does Done (with_members space.old.vars cluster ((0, Num outcome) ∷ (3, byte_list message.now) ∷ [])) space.old result space.new }
-    ensures leaves { LeavesAfter (Some calls.ReadMessage) cluster space.old space.new }
+    ensures leaves { (i : ℕ) → IsMember space.old.vars cluster 3 Text i → Leaves (i ∷ []) space.old space.new }
 {
     let entry = entry_of(Call::ReadMessage, cluster, 3);
     store_bytes(alloc, space, entry, message)?;

@@ -38,7 +38,7 @@ pub fn machine_of(alloc: Global, parts: Parts) -> Result<Machine, AcceptFault>
     ensures accepted { MatchResult result (λ m. IsRun parts m.image) (PartsCause parts) }
 {
     let (layout, code) = judge(alloc, parts)?;
-    Ok(Machine::new(alloc, layout, code)?)
+    Ok(Machine::new(alloc, layout, code, 0)?)
 }
 
 /// What is told of a file that breaks no rule, or the first rule that it breaks.

@@ -2,6 +2,6 @@ mod Hold
 mod Read
 pub mod Laws
 mod Free
-mod Fill
+pub mod Fill
 mod Store
 mod Examples

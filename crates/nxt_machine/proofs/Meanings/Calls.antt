@@ -89,6 +89,14 @@ can_call s i sound is =
       shape = is.cluster.has;
     }
 
+-- it gives what the call of the number gives
+pub gives_call : (s : Variables) (i : Instr) (words : List ℕ) (d : Devices) (t : Clock) → i.op ≡ ops.Syscall → IsNamed s i.b → its_effect s i words d t ≡ effect_of s d t i.a i.b
+gives_call s i words d t op named_by =
+    ap (λ o. means_by o) op ∙ ap (call_means d t (Immediate i.a)) (given_same s i.b named_by)
+  where
+    means_by : Op → Effect
+    means_by o = means o i.cmp d t (operands_at s (statement_by o i words))
+
 -- ---- how it ended
 
 module _ (s new : SpaceViews) (words : List ℕ) (place word : ℕ) (t : Clock) (i : Instr) (io io' : Devices) (out out' : Roomy) (op : i.op ≡ ops.Syscall) (named_by : IsNamed s.vars i.b) where
@@ -102,11 +110,7 @@ module _ (s new : SpaceViews) (words : List ℕ) (place word : ℕ) (t : Clock) 
   gave = effect_of s.vars io t i.a i.b
 
   same_effect : its_effect s.vars i words io t ≡ gave
-  same_effect =
-      ap (λ o. means_by o) op ∙ ap (call_means io t (Immediate i.a)) (given_same s.vars i.b named_by)
-    where
-      means_by : Op → Effect
-      means_by o = means o i.cmp io t (operands_at s.vars (statement_by o i words))
+  same_effect = gives_call s.vars i words io t op named_by
 
   same_values : put_all (references s.vars.shapes (statement_of i words)) (its_effect s.vars i words io t).stores s.vars.values ≡ values_by s.vars i.a i.b gave
   same_values =

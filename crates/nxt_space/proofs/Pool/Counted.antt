@@ -1,5 +1,5 @@
 -- The blocks of a pool, by its rows and by the lists in reading order: what is summed over both is the same.
-use Rattle.std.proofs.Common.{◌≡◌, ◌≢◌, ℕ, zero, suc, ◌+◌, ◌*◌, ◌/◌, ◌<◌, ◌≤◌, Bool, true, false, cond, nat_lt, List, [], ◌∷◌, map, filter, take, length, get_or, sum_by, AllPairs, Option, Some, None, is_some, inl, inr, refl, sym, ap, ap₂, ◌∙◌, arith, lt-ltb, eq-eqb, ◌==◌, ◌||◌, zero-mul}
+use Rattle.std.proofs.Common.{◌≡◌, ◌≢◌, ℕ, zero, suc, ◌+◌, ◌*◌, ◌/◌, ◌<◌, ◌≤◌, Bool, true, false, cond, nat_lt, List, [], ◌∷◌, map, filter, length, get_or, sum_by, AllPairs, Option, Some, None, is_some, inl, inr, refl, sym, ap, ap₂, ◌∙◌, arith, lt-ltb, eq-eqb, ◌==◌, zero-mul}
 use Rattle.std.specs.List.{list_any, range_with_len}
 use Rattle.std.proofs.lemmas.Bool.{cases_eq, or_parts, false≢true}
 use Rattle.std.proofs.lemmas.Nat.{mul-le}
@@ -16,12 +16,11 @@ use Rattle.nxt_model.specs.Reading.{Block, DopeRow, Memory, HeldList, non_empty}
 use Rattle.nxt_model.specs.Reading.{dope_row as memory_row}
 use Rattle.nxt_blocks.specs.Blocks.{has_bytes}
 use Rattle.nxt_rows.specs.Rows.{dope_row, row_count}
-use Rattle.nxt_compact.specs.Pools.{block_bytes, block_of, blocks_in, IsFull, IsSound}
+use Rattle.nxt_compact.specs.Pools.{block_bytes, block_of, blocks_in, IsSound}
 use Rattle.nxt_compact.proofs.Laws.Going.{first_full}
 use Rattle.nxt_heap.specs.Dumps.{row_of, HoldHeap, IsDopeTable}
 use Rattle.nxt_heap.specs.Lists.{Lists, ByteList, list_at, bytes_at, bytes_of, stride_at, stride_of, IsAlive}
 use Rattle.nxt_values.proofs.Laws.HeldRows.{own_below, below_listed, alive_within}
-use Rattle.nxt_values.proofs.Laws.Without.{Differ}
 use Rattle.nxt_space.proofs.Pool.Reads.{list_in, lists_in, count_of}
 
 -- ---- sums

@@ -1,5 +1,5 @@
 -- Where the last of some blocks ends.
-use Rattle.std.proofs.Common.{◌≡◌, ℕ, ◌+◌, ◌<◌, ◌≤◌, Bool, true, false, cond, nat_lt, List, [], ◌∷◌, sum_by, inl, inr, refl, sym, ap, ◌∙◌, arith, lt-ltb, le-ltb}
+use Rattle.std.proofs.Common.{◌≡◌, ℕ, ◌+◌, ◌≤◌, Bool, cond, nat_lt, List, [], ◌∷◌, sum_by, inl, inr, refl, sym, ap, ◌∙◌, arith, lt-ltb, le-ltb}
 use Rattle.std.specs.Prelude.{fold, max}
 use Rattle.std.proofs.lemmas.Bool.{cases_lt}
 use Rattle.nxt_facts.proofs.Sums.{total, total_is}

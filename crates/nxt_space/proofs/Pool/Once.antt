@@ -1,6 +1,6 @@
 -- Rows with lists and rows without, each once.
-use Rattle.std.proofs.Common.{◌≡◌, ◌≢◌, ℕ, zero, suc, ◌+◌, ◌-◌, ◌<◌, ◌≤◌, Bool, true, false, cond, ◌||◌, ◌==◌, nat_eq, nat_lt, List, [], ◌∷◌, ◌++◌, length, get_or, AllPairs, Option, Some, None, is_some, is_none, All, inl, inr, refl, sym, ap, ap₂, ◌∙◌, arith, ltb-true, eq-eqb, ne_eqb, eqb-true}
-use Rattle.std.specs.List.{list_any, IsDistinct, AllByRecursion}
+use Rattle.std.proofs.Common.{◌≡◌, ◌≢◌, ℕ, zero, suc, ◌+◌, ◌-◌, ◌<◌, Bool, true, false, cond, ◌||◌, ◌==◌, nat_eq, List, [], ◌∷◌, ◌++◌, AllPairs, All, inl, inr, refl, sym, ap, ap₂, ◌∙◌, arith, ltb-true, eq-eqb, ne_eqb}
+use Rattle.std.specs.List.{list_any, IsDistinct}
 use Rattle.std.proofs.lemmas.Bool.{cases_eq, ltb-false, false≢true}
 use Rattle.nxt_facts.specs.Pairs.{EachPair}
 use Rattle.nxt_facts.specs.Sums.{sum_below}

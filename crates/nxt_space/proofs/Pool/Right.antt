@@ -1,25 +1,26 @@
 -- A dump of the pool is right for the variables.
-use Rattle.std.proofs.Common.{◌≡◌, ◌≢◌, ℕ, ◌+◌, ◌-◌, ◌*◌, ◌/◌, ◌<◌, ◌≤◌, ◌||◌, ◌==◌, Bool, true, false, cond, nat_eq, nat_lt, nat_le, List, [], ◌∷◌, ◌++◌, map, filter, length, take, get_or, sum_by, count_by, All, AllPairs, Option, Some, None, is_some, is_none, inl, inr, refl, sym, ap, ap₂, ◌∙◌, subst, arith, ltb-true, le-leb, ne_eqb, zero, suc}
+use Rattle.std.proofs.Common.{◌≡◌, ◌≢◌, ℕ, ◌+◌, ◌-◌, ◌*◌, ◌/◌, ◌<◌, ◌≤◌, ◌||◌, ◌==◌, Bool, true, false, nat_lt, nat_le, List, [], ◌∷◌, ◌++◌, map, length, sum_by, count_by, All, AllPairs, Option, Some, None, is_some, is_none, inl, inr, refl, sym, ap, ap₂, ◌∙◌, subst, arith, ltb-true, le-leb, ne_eqb, zero, suc}
 use Rattle.std.specs.List.{list_any}
 use Rattle.std.specs.Prelude.{if◌then◌else◌}
 use Rattle.std.proofs.lemmas.Bool.{cases_eq, or_right, false≢true}
 use Rattle.std.proofs.lemmas.Nat.{mul-le}
 use Rattle.nxt_facts.specs.Pairs.{EachPair}
-use Rattle.nxt_facts.proofs.Each.{Each, each_from, each_then, each_both, each_mapped, each_filter}
+use Rattle.nxt_facts.proofs.Each.{Each, each_then, each_both, each_mapped, each_filter}
 use Rattle.nxt_facts.proofs.Pairs.{all_pairs, each_pair}
 use Rattle.nxt_facts.proofs.Sums.{bit, is_it, tally_is, total_is, total_every}
 use Rattle.nxt_types.specs.Pool.{round4, pool_size}
-use Rattle.nxt_model.specs.Dump.{RowFits, RowsFit, EachOnce, BlocksFit, Shows, pool_blocks, is_unsettled, greatest_end}
-use Rattle.nxt_model.specs.Reading.{Block, Memory, HeldList, AreApart, non_empty}
+use Rattle.nxt_model.specs.Dump.{RowFits, EachOnce, BlocksFit, pool_blocks, is_unsettled, greatest_end}
+use Rattle.nxt_model.specs.Reading.{Block, DopeRow, Memory, HeldList, AreApart, non_empty}
 use Rattle.nxt_model.specs.Reading.{dope_row as memory_row}
 use Rattle.nxt_blocks.specs.Blocks.{unsettled}
 use Rattle.nxt_blocks.specs.Standing.{IsApart}
 use Rattle.nxt_rows.specs.Rows.{dope_row, row_count}
-use Rattle.nxt_compact.specs.Pools.{block_bytes, block_of, blocks_in, IsFull, IsSound}
+use Rattle.nxt_compact.specs.Pools.{block_of, blocks_in, IsFull, IsSound}
 use Rattle.nxt_compact.proofs.Laws.Going.{first_full}
 use Rattle.nxt_heap.specs.Dumps.{row_of, HoldHeap, IsDopeTable}
 use Rattle.nxt_heap.specs.Lists.{Lists, ByteList, list_at, bytes_at, stride_at, IsAlive}
 use Rattle.nxt_values.proofs.Laws.HeldRows.{alive_within}
+use Rattle.nxt_space.specs.Dumping.{place_in}
 use Rattle.nxt_space.proofs.Pool.Apart.{pairs_mapped, pairs_filter}
 use Rattle.nxt_space.proofs.Pool.Counted.{list_part, counts, list_block, table_block, same_sums, not_first}
 use Rattle.nxt_space.proofs.Pool.Ends.{same_end}
@@ -189,3 +190,26 @@ module _ (m : Memory) (pool : List ℕ) (base : ℕ) (h : Lists) (rows : List �
     inside = short;
     unsettled = unsettled_is;
   }
+
+  -- ---- places
+
+  abbrev place_by : HeldList → Option ℕ
+  place_by l = if l.count == 0 then None else Some (memory_row m l.row).place
+
+  row_there : (r : ℕ) → row_of pool m.table r ≡ (let d = dope_row pool m.table r in record { place = d.place; stride = d.stride; count = d.count; back = d.back; link = d.link })
+  unfolding dope_row
+  row_there r = refl
+
+  -- a list stands where its row says
+  place_there : (r : ℕ) → 1 ≤ stride_at h r → IsAlive h r → place_by (list_in h r) ≡ place_in (record { bytes = pool; table = m.table }) r
+  place_there r some a =
+      let c = counts m pool base h rows holds dope sound counted same first strides alive named own r some a in
+      ap (λ n. if n == 0 then None else Some (memory_row m r).place) (sym c.0)
+      ∙ ap (λ (d : DopeRow). if d.count == 0 then None else Some d.place) (same r c.2 ∙ row_there r)
+
+  placed : (rs : List ℕ) → Each (λ r. place_by (list_in h r) ≡ place_in (record { bytes = pool; table = m.table }) r) rs → map place_by (map (list_in h) rs) ≡ map (place_in (record { bytes = pool; table = m.table })) rs
+  placed [] e = refl
+  placed (r ∷ rs) e = ap₂ (λ p ps. p ∷ ps) e.0 (placed rs e.1)
+
+  pub places : map place_by lists ≡ map (place_in (record { bytes = pool; table = m.table })) rows
+  places = placed rows (each_both (λ r. 1 ≤ stride_at h r) (IsAlive h) (λ r. place_by (list_in h r) ≡ place_in (record { bytes = pool; table = m.table }) r) place_there rows strides alive)

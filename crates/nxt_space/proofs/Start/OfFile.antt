@@ -57,7 +57,7 @@ mutual
       ∙ members_of m (i + 1) ss base (elements v) ls e.1
   read_of m i Mutex base v ls e = ap (is_of Mutex) e.0
 
-  members_of : (m : Memory) (i : ℕ) (ss : Members) (base : ℕ) (vs : List Value) (ls : List HeldList) → MembersRead m i ss base vs ls → are_of ss vs ≡ true
+  pub members_of : (m : Memory) (i : ℕ) (ss : Members) (base : ℕ) (vs : List Value) (ls : List HeldList) → MembersRead m i ss base vs ls → are_of ss vs ≡ true
   members_of m i no_members base vs ls e = ap (are_of no_members) e.0
   members_of m i (member s ss) base [] ls e = absurd e
   members_of m i (member s ss) base (v ∷ vs) ls e =

@@ -1,14 +1,31 @@
 -- The list has the size that was measured.
-use Rattle.std.proofs.Common.{ap, arith}
+use Rattle.std.proofs.Common.{sym, ap, subst, arith}
 use Rattle.nxt_model.specs.Values.{list_of, stored}
+use Rattle.nxt_space.specs.Outcomes.{Does}
 use Rattle.nxt_space.specs.Variables.{shape_of, with_value}
 use Rattle.nxt_operands.specs.Operands.{Done}
 use Rattle.nxt_operands.proofs.Laws.OneStored.{given_stored, spelled_given}
 use Rattle.nxt_operands.proofs.Laws.Refusals.{passed_on}
 use Rattle.nxt_lists.specs.Pieces.{pieces_of}
+use Rattle.nxt_lists.proofs.JoinedNumbers.{number_behind}
 use Rattle.nxt_lists.proofs.ListStored.{list_size, list_storable}
 use Rattle.nxt_lists.proofs.Sources.{pieces_for}
 use Rattle.nxt_lists.proofs.building.build.Goals as goal
+
+pub returns-in-Some-appended-clause-does : goal.returns-in-Some-appended-clause-does
+returns-in-Some-appended-clause-does c d =
+    let s = c.args.space.now.vars in
+    let i = c.args.dest in
+    let sources = c.args.sources.now in
+    let found = c.in-Some-appended.ensures.found in
+    let vs = pieces_of s i sources in
+    let are = number_behind s i found.0 c.in-Some.to c.in-Some-appended.number sources c.in-Some.ensures.found found.2 found.1 in
+    given_stored c.args.space.now c.append_number.new.space i (list_of vs) c.append_number.result
+    (subst
+    (λ us. Does {T = Unit {0}} Done (with_value s i (stored (shape_of s i) (list_of us))) c.args.space.now c.append_number.result c.append_number.new.space)
+    (sym are)
+    (c.append_number.ensures.does found.0 found.2))
+    d
 
 pub store_joined-requires-clause-few : goal.store_joined-requires-clause-few
 store_joined-requires-clause-few c =

@@ -1,13 +1,11 @@
 -- Each statement on devices or the clock, by what it is.
-use Rattle.std.proofs.Common.{◌≡◌, ℕ, ◌++◌, ◌∷◌, [], Ok, Err, Result, Some, refl, sym, ap, ◌∙◌, subst, arith, append-nil, drop, slice_get, List, ℤ, w64}
+use Rattle.std.proofs.Common.{◌≡◌, ℕ, ◌++◌, ◌∷◌, [], Ok, Err, Result, refl, sym, ap, ◌∙◌, subst, arith, append-nil, drop, List, ℤ, w64}
 use Rattle.std.specs.Prelude.{OnOk, pos}
 use Rattle.std.proofs.lemmas.Int.{to_z_pos}
 use Rattle.nxt_types.specs.Arithmetic.{word}
 use Rattle.nxt_types.specs.Names.{named}
 use Rattle.nxt_types.specs.Statements.{statement_of}
-use Rattle.nxt_types.specs.OperandRules.{AreFit}
 use Rattle.nxt_types.specs.declared.memory.NoMemory.{NoMemory}
-use Rattle.nxt_code.specs.declared.statements.StatementAt.{StatementAt}
 use Rattle.nxt_model.specs.Devices.{Devices, Change, changed, set_in, get_in, get_out}
 use Rattle.nxt_model.specs.Values.{Num, stored}
 use Rattle.nxt_model.specs.Variables.{Plain, part_of}
@@ -16,18 +14,13 @@ use Rattle.nxt_space.specs.Variables.{Variables, shape_of, with_value}
 use Rattle.nxt_operands.proofs.Laws.Named.{named_some}
 use Rattle.nxt_sys.specs.Calls.{clock_of}
 use Rattle.nxt_machine.specs.Numbers.{number_at, ports_at, set_motors_by}
-use Rattle.nxt_machine.specs.Inside.Programs.{IsProgram, IsKept}
+use Rattle.nxt_machine.specs.Inside.Programs.{IsKept}
 use Rattle.nxt_machine.specs.Inside.Statements.{Told, IsDone}
-use Rattle.nxt_machine.specs.declared.program.Program.{Program}
-use Rattle.nxt_machine.proofs.Kept.{there, program_kept}
+use Rattle.nxt_machine.proofs.Kept.{fit_there, program_kept}
 use Rattle.nxt_machine.proofs.Meanings.Acts.{setout_effect, setin_effect, getin_effect, getout_effect, gettick_effect, getin_refers, getout_refers, gettick_refers, ports_fit, getin_property, getout_property}
 use Rattle.nxt_machine.proofs.Meanings.Ended.{devices_done, number_done}
 use Rattle.nxt_machine.proofs.Meanings.OfClumps.{input_fits, output_fits, tick_fits}
 use Rattle.nxt_machine.proofs.statement.act.Goals as goal
-
--- the statement is fit
-fit_there : (p : Program) → IsProgram p → (place : ℕ) (x : StatementAt) → slice_get p.code.decoded.placed.items place ≡ Some x → AreFit p.space.vars.shapes (statement_of x.instr p.code.words)
-fit_there p is place x at = is.fit place (x.word, statement_of x.instr p.code.words) (there p is place x at)
 
 -- with a number stored only values and rows change
 kept_by : (s new : Variables) (i : ℕ) (x : ℤ) → new ≡ record s { values = with_value s i (stored (shape_of s i) (Num x)) } → IsKept s new
@@ -88,12 +81,12 @@ returns-in-Getout-clause-done c =
     let d = c.args.io.now in
     let t = clock_of c.args.clock in
     number_done p.space c.get_output.new.space d c.args.out.now.lines t (statement_of i words) i.a (part_of (named s.shapes i.b) ∷ Plain i.c ∷ []) (get_out (word (number_at s i.b)) i.c d) c.is_sound.ensures
-    (output_fits s i words c.in-Getout.is (fit_there c.args.program.now c.requires.program c.requires.at.0 c.args.placed c.requires.at.1)) (getout_refers s i words d t c.in-Getout.is) (getout_effect s i words d t c.in-Getout.is) c.get_output.ensures
+    (output_fits s i words c.in-Getout.is (fit_there c.args.program.now c.requires.program c.requires.at.0 c.args.placed c.requires.at.1)) (getout_refers s i words d t c.in-Getout.is) (getout_effect s i words d t c.in-Getout.is) c.get_output.ensures.value
 
 pub returns-in-Getout-clause-program : goal.returns-in-Getout-clause-program
 returns-in-Getout-clause-program c =
     let s = c.args.program.now.space.vars in
-    program_kept c.args.program.now c.get_output.new.space (kept_by s c.get_output.new.space.vars c.args.placed.instr.a _ c.get_output.ensures) c.requires.program
+    program_kept c.args.program.now c.get_output.new.space (kept_by s c.get_output.new.space.vars c.args.placed.instr.a _ c.get_output.ensures.value) c.requires.program
 
 -- ---- sensors
 
@@ -133,12 +126,12 @@ returns-in-Getin-clause-done c =
     let d = c.args.io.now in
     let t = clock_of c.args.clock in
     number_done p.space c.get_input.new.space d c.args.out.now.lines t (statement_of i words) i.a (part_of (named s.shapes i.b) ∷ Plain i.c ∷ []) (get_in (word (number_at s i.b)) i.c d) c.is_sound.ensures
-    (input_fits s i words c.in-Getin.is (fit_there c.args.program.now c.requires.program c.requires.at.0 c.args.placed c.requires.at.1)) (getin_refers s i words d t c.in-Getin.is) (getin_effect s i words d t c.in-Getin.is) c.get_input.ensures
+    (input_fits s i words c.in-Getin.is (fit_there c.args.program.now c.requires.program c.requires.at.0 c.args.placed c.requires.at.1)) (getin_refers s i words d t c.in-Getin.is) (getin_effect s i words d t c.in-Getin.is) c.get_input.ensures.value
 
 pub returns-in-Getin-clause-program : goal.returns-in-Getin-clause-program
 returns-in-Getin-clause-program c =
     let s = c.args.program.now.space.vars in
-    program_kept c.args.program.now c.get_input.new.space (kept_by s c.get_input.new.space.vars c.args.placed.instr.a _ c.get_input.ensures) c.requires.program
+    program_kept c.args.program.now c.get_input.new.space (kept_by s c.get_input.new.space.vars c.args.placed.instr.a _ c.get_input.ensures.value) c.requires.program
 
 -- ---- the clock
 

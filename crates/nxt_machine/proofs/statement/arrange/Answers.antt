@@ -1,14 +1,22 @@
 -- A statement on lists or texts does what the plain machine does, and the program is the same but for values and rows.
-use Rattle.std.proofs.Common.{sym, subst, Ok, Err}
+use Rattle.std.proofs.Common.{◌≡◌, ℕ, true, [], ◌∷◌, sym, subst, slice_get, Some, Ok, Err}
 use Rattle.nxt_types.specs.Statements.{statement_of}
-use Rattle.nxt_model.specs.Devices.{at_start}
+use Rattle.nxt_code.specs.declared.statements.StatementAt.{StatementAt}
+use Rattle.nxt_model.specs.Devices.{Devices, at_start}
+use Rattle.nxt_model.specs.SystemCalls.{Clock}
+use Rattle.nxt_space.specs.Keeping.{Leaves}
+use Rattle.nxt_space.specs.Variables.{SpaceViews}
 use Rattle.nxt_operands.specs.Operands.{Done}
-use Rattle.nxt_arrays.specs.Arrays.{CanRun, values_after}
+use Rattle.nxt_arrays.specs.Arrays.{CanRun, runs as works_on_lists, values_after}
 use Rattle.nxt_space.specs.Outcomes.{Does}
 use Rattle.nxt_space.specs.declared.fault.OpFault.TheVariants.{PoolPassed}
+use Rattle.nxt_machine.specs.Inside.Keeping.{StatementStays}
+use Rattle.nxt_machine.specs.Inside.Programs.{IsProgram, IsKept}
 use Rattle.nxt_machine.specs.Inside.Statements.{Told, IsPassed}
+use Rattle.nxt_machine.specs.declared.program.Program.{Program}
+use Rattle.nxt_machine.proofs.Keeping.FirstStored.{arranged_stays}
 use Rattle.nxt_machine.proofs.Meanings.Ended.{list_ran, list_refused}
-use Rattle.nxt_machine.proofs.Kept.{origin, there, whole_there, still_program, same_image}
+use Rattle.nxt_machine.proofs.Kept.{origin, there, fit_there, whole_there, kept_after, shapes_kept, still_program, same_image}
 use Rattle.nxt_machine.proofs.statement.arrange.Goals as goal
 
 pub run_array-requires : goal.run_array-requires
@@ -72,3 +80,26 @@ returns-in-Err-NoMemory-clause-program c =
 
 pub returns-in-Err-NoMemory-clause-image : goal.returns-in-Err-NoMemory-clause-image
 returns-in-Err-NoMemory-clause-image c = same_image _ _ c.args.program.now c.run_array.new.space c.run_array.result (c.run_array.ensures.does at_start origin)
+
+-- ---- what stays where it is
+
+-- it leaves what the entry of its first operand tells
+stays_there : (p : Program) → IsProgram p → (place : ℕ) (x : StatementAt) → slice_get p.code.decoded.placed.items place ≡ Some x → works_on_lists x.instr.op ≡ true
+    → (new : SpaceViews) → IsKept p.space.vars new.vars → Leaves (x.instr.a ∷ []) p.space new → (d : Devices) (t : Clock) → StatementStays t (statement_of x.instr p.code.words) d p.space new
+stays_there p is place x at run new kept left d t =
+    arranged_stays p.space new x.instr p.code.words d t (fit_there p is place x at) (shapes_kept p.space.vars new.vars kept) run left
+
+pub returns-in-Ok-clause-stays : goal.returns-in-Ok-clause-stays
+returns-in-Ok-clause-stays c =
+    stays_there c.args.program.now c.requires.program c.args.place c.args.placed c.requires.at c.requires.on_lists c.run_array.new.space
+    (kept_after _ _ c.args.program.now.space c.run_array.new.space c.run_array.result (c.run_array.ensures.does at_start origin)) c.run_array.ensures.leaves
+
+pub returns-in-Err-PoolPassed-clause-stays : goal.returns-in-Err-PoolPassed-clause-stays
+returns-in-Err-PoolPassed-clause-stays c =
+    stays_there c.args.program.now c.requires.program c.args.place c.args.placed c.requires.at c.requires.on_lists c.run_array.new.space
+    (kept_after _ _ c.args.program.now.space c.run_array.new.space c.run_array.result (c.run_array.ensures.does at_start origin)) c.run_array.ensures.leaves
+
+pub returns-in-Err-NoMemory-clause-stays : goal.returns-in-Err-NoMemory-clause-stays
+returns-in-Err-NoMemory-clause-stays c =
+    stays_there c.args.program.now c.requires.program c.args.place c.args.placed c.requires.at c.requires.on_lists c.run_array.new.space
+    (kept_after _ _ c.args.program.now.space c.run_array.new.space c.run_array.result (c.run_array.ensures.does at_start origin)) c.run_array.ensures.leaves

@@ -5,10 +5,17 @@ use Rattle.nxt_code.specs.declared.statements.StatementAt.{StatementAt}
 use Rattle.nxt_machine.specs.declared.program.Program.{Program}
 use Rattle.nxt_machine.specs.Inside.Programs.{IsProgram}
 use Rattle.nxt_types.specs.Statements.{statement_of}
+use Rattle.nxt_model.specs.Devices.{Devices}
+use Rattle.nxt_model.specs.SystemCalls.{Clock as Moments}
+use Rattle.nxt_types.specs.Calls.{call_of}
+use Rattle.nxt_space.specs.Variables.{SpaceViews, AreSound}
 use Rattle.nxt_operands.specs.Operands.{Done}
 use Rattle.nxt_sys.specs.Calls.{Calls, clock_of}
+use Rattle.nxt_sys.specs.Keeping.{LeavesAfter}
+use Rattle.nxt_machine.specs.Inside.Keeping.{StatementStays}
+use Rattle.nxt_machine.proofs.Keeping.Called.{called_stays}
 use Rattle.nxt_machine.specs.Inside.Statements.{Told, IsPassed}
-use Rattle.nxt_machine.proofs.Kept.{there, few_before, still_program}
+use Rattle.nxt_machine.proofs.Kept.{there, few_before, kept_after, shapes_kept, still_program}
 use Rattle.nxt_machine.proofs.Meanings.Calls.{IsCall, call_fits, can_call, call_ran, call_refused}
 use Rattle.nxt_machine.proofs.statement.call.Goals as goal
 
@@ -49,3 +56,28 @@ returns-in-Err-PoolPassed-clause-did c =
     (λ e. Calls x.instr.a x.instr.b t p.space c.args.io.now c.args.out.now (Err e) c.syscall.new.space c.syscall.new.io c.syscall.new.out)
     c.in-Err-PoolPassed.field-0-is
     c.in-Err-PoolPassed.ensures.calls))
+
+-- ---- what stays where it is
+
+-- it leaves what the members of its cluster tell that it writes to
+stays_there : (p : Program) → IsProgram p → (place : ℕ) (x : StatementAt) → slice_get p.code.decoded.placed.items place ≡ Some x → x.instr.op ≡ ops.Syscall
+    → (sound : AreSound p.space.vars) (new : SpaceViews) → new.vars.shapes ≡ p.space.vars.shapes → LeavesAfter (call_of x.instr.a) x.instr.b p.space new → (d : Devices) (t : Moments) → StatementStays t (statement_of x.instr p.code.words) d p.space new
+stays_there p is place x at e sound new same left d t = called_stays p.space new x.instr p.code.words d t e sound (is_call p is place x at e) same left
+
+pub returns-in-Ok-clause-stays : goal.returns-in-Ok-clause-stays
+returns-in-Ok-clause-stays c =
+    let s = c.args.program.now.space in
+    stays_there c.args.program.now c.requires.program c.args.place c.args.placed c.requires.at c.requires.call c.is_sound.ensures c.syscall.new.space
+    (shapes_kept s.vars c.syscall.new.space.vars (kept_after Done _ s c.syscall.new.space (Ok tt) c.in-Ok.ensures.calls.0)) c.syscall.ensures.leaves c.args.io.now (clock_of c.args.clock)
+
+pub returns-in-Err-PoolPassed-clause-stays : goal.returns-in-Err-PoolPassed-clause-stays
+returns-in-Err-PoolPassed-clause-stays c =
+    let s = c.args.program.now.space in
+    stays_there c.args.program.now c.requires.program c.args.place c.args.placed c.requires.at c.requires.call c.is_sound.ensures c.syscall.new.space
+    (shapes_kept s.vars c.syscall.new.space.vars (kept_after Done _ s c.syscall.new.space (Err _) c.in-Err-PoolPassed.ensures.calls.0)) c.syscall.ensures.leaves c.args.io.now (clock_of c.args.clock)
+
+pub returns-in-Err-NoMemory-clause-stays : goal.returns-in-Err-NoMemory-clause-stays
+returns-in-Err-NoMemory-clause-stays c =
+    let s = c.args.program.now.space in
+    stays_there c.args.program.now c.requires.program c.args.place c.args.placed c.requires.at c.requires.call c.is_sound.ensures c.syscall.new.space
+    (shapes_kept s.vars c.syscall.new.space.vars (kept_after Done _ s c.syscall.new.space (Err _) c.in-Err-NoMemory.ensures.calls.0)) c.syscall.ensures.leaves c.args.io.now (clock_of c.args.clock)

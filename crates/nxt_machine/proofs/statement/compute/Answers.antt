@@ -1,15 +1,23 @@
 -- A statement that computes does what the plain machine does, and the program is the same but for values and rows.
-use Rattle.std.proofs.Common.{◌≡◌, ◌<◌, ◌^◌, Bool, true, false, ℤ, w32, w64, rules, sym, ap, ◌∙◌, subst, Err}
+use Rattle.std.proofs.Common.{◌≡◌, ℕ, ◌<◌, ◌^◌, Bool, true, false, ℤ, w32, w64, rules, sym, ap, ◌∙◌, subst, slice_get, Some, Err}
 use Rattle.std.proofs.Math.Facts.{to_z-of_z}
 use Rattle.std.specs.Int.Signed.{mag}
 use Rattle.nxt_types.specs.Statements.{statement_of, statements, statement_number, landing, offset_of}
 use Rattle.nxt_types.specs.declared.instr.Instr.{Instr}
-use Rattle.nxt_model.specs.Devices.{at_start}
-use Rattle.nxt_ops.specs.Ops.{statement_in, next_of}
+use Rattle.nxt_code.specs.declared.statements.StatementAt.{StatementAt}
+use Rattle.nxt_model.specs.Devices.{Devices, at_start}
+use Rattle.nxt_model.specs.SystemCalls.{Clock}
+use Rattle.nxt_space.specs.Keeping.{Leaves}
+use Rattle.nxt_space.specs.Variables.{SpaceViews}
+use Rattle.nxt_ops.specs.Ops.{runs as computes, statement_in, next_of, dests}
 use Rattle.nxt_ops.specs.declared.run.Next.TheVariants.{Jump}
+use Rattle.nxt_machine.specs.Inside.Keeping.{StatementStays}
+use Rattle.nxt_machine.specs.Inside.Programs.{IsProgram, IsKept}
 use Rattle.nxt_machine.specs.Inside.Statements.{Told, IsPassed}
+use Rattle.nxt_machine.specs.declared.program.Program.{Program}
+use Rattle.nxt_machine.proofs.Keeping.FirstStored.{computed_stays}
 use Rattle.nxt_machine.proofs.Meanings.Ended.{Tells, fell, jumped, refused}
-use Rattle.nxt_machine.proofs.Kept.{origin, statement_there, still_program, same_image}
+use Rattle.nxt_machine.proofs.Kept.{origin, statement_there, fit_there, kept_after, shapes_kept, still_program, same_image}
 use Rattle.nxt_machine.proofs.statement.compute.Goals as goal
 
 pub run_op-requires : goal.run_op-requires
@@ -91,3 +99,31 @@ returns-in-Err-NoMemory-clause-program c =
 
 pub returns-in-Err-NoMemory-clause-image : goal.returns-in-Err-NoMemory-clause-image
 returns-in-Err-NoMemory-clause-image c = same_image _ _ c.args.program.now c.run_op.new.space c.run_op.result (c.run_op.ensures.does at_start origin)
+
+-- ---- what stays where it is
+
+-- it leaves what the entry tells that it writes to
+stays_there : (p : Program) → IsProgram p → (place : ℕ) (x : StatementAt) → slice_get p.code.decoded.placed.items place ≡ Some x → computes x.instr.op ≡ true
+    → (new : SpaceViews) → IsKept p.space.vars new.vars → Leaves (dests x.instr) p.space new → (d : Devices) (t : Clock) → StatementStays t (statement_of x.instr p.code.words) d p.space new
+stays_there p is place x at run new kept left d t =
+    computed_stays p.space new x.instr p.code.words d t (fit_there p is place x at) (shapes_kept p.space.vars new.vars kept) run left
+
+pub returns-in-Ok-Fall-clause-stays : goal.returns-in-Ok-Fall-clause-stays
+returns-in-Ok-Fall-clause-stays c =
+    stays_there c.args.program.now c.requires.program c.args.place c.args.placed c.requires.at c.requires.computes c.run_op.new.space
+    (kept_after _ _ c.args.program.now.space c.run_op.new.space c.run_op.result (c.run_op.ensures.does at_start origin)) c.run_op.ensures.leaves
+
+pub returns-in-Ok-Jump-clause-stays : goal.returns-in-Ok-Jump-clause-stays
+returns-in-Ok-Jump-clause-stays c =
+    stays_there c.args.program.now c.requires.program c.args.place c.args.placed c.requires.at c.requires.computes c.run_op.new.space
+    (kept_after _ _ c.args.program.now.space c.run_op.new.space c.run_op.result (c.run_op.ensures.does at_start origin)) c.run_op.ensures.leaves
+
+pub returns-in-Err-PoolPassed-clause-stays : goal.returns-in-Err-PoolPassed-clause-stays
+returns-in-Err-PoolPassed-clause-stays c =
+    stays_there c.args.program.now c.requires.program c.args.place c.args.placed c.requires.at c.requires.computes c.run_op.new.space
+    (kept_after _ _ c.args.program.now.space c.run_op.new.space c.run_op.result (c.run_op.ensures.does at_start origin)) c.run_op.ensures.leaves
+
+pub returns-in-Err-NoMemory-clause-stays : goal.returns-in-Err-NoMemory-clause-stays
+returns-in-Err-NoMemory-clause-stays c =
+    stays_there c.args.program.now c.requires.program c.args.place c.args.placed c.requires.at c.requires.computes c.run_op.new.space
+    (kept_after _ _ c.args.program.now.space c.run_op.new.space c.run_op.result (c.run_op.ensures.does at_start origin)) c.run_op.ensures.leaves
