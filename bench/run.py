@@ -4,8 +4,10 @@
 The first cases run 4,000,000 bytecodes each. Then come scripts of 100,000 rows: the rows of every kind in turn; the longest
 rows, with empty lines between them up to 16,777,216 bytes; telegrams of every command in turn; telegrams that read the longest
 message; and telegrams that start a program again which has 2,000 lists, or 32,000 bytes. The last scripts have 16,777,216 bytes
-and no row, and the last case lists a program of 251,110 bytes. Prints the seconds, the greatest size of the process in memory, and the report's size and last line. With the name
-of a case that one alone is run. A size in memory below that of this script itself isn't seen.
+and no row. Then a full pool is dumped 256 times, as often as a script may; lists change places with an effort of 255 at the end of
+each turn; and the same is dumped 256 times. The last case lists a program of 251,110 bytes. Prints the seconds, the greatest size
+of the process in memory, and the report's size and last line. With the name of a case that one alone is run. A size in memory
+below that of this script itself isn't seen.
 """
 import os
 import struct
@@ -74,7 +76,28 @@ MANY = image(
 # a list of 32,000 bytes, and the jump
 LONG = image([(7, 0, 0), (1, 0, 0)], 2, struct.pack("<H", 1), [0x4025, 0], [(2, 10, 2), (22, 1, 32000)], bytes(32000))
 
+# a list that fills the pool, and the jump
+FULL_POOL = image([(7, 0, 0), (1, 0, 0)], 2, struct.pack("<H", 1), [0x4025, 0], [(2, 10, 2), (22, 1, 32744)], bytes(32744))
+# two lists that are given up in turn, before a third one, which moves where the pool settles
+MOVING = b"""dseg segment
+first byte[]
+last byte[]
+other byte[]
+dseg ends
+thread main
+again:
+arrinit first, 1, 1000
+arrinit last, 2, 1000
+arrsubset first, first, 0, 0
+arrinit other, 3, 1000
+arrsubset last, last, 0, 0
+arrsubset other, other, 0, 0
+jmp again
+endt
+"""
+
 RUNS = [b"run,1000000\n"] * 4
+DUMPS = 256
 ROWS = 100000
 BYTES = 16777216
 
@@ -153,8 +176,11 @@ CASES = (
     ("anew", LONG, lambda: in_turn(COMMANDS[:1])),
     ("empty", JUMP, lambda: filled([])),
     ("marks", JUMP, lambda: (b"\xef\xbb\xbf\n" for _ in range(BYTES // 4))),
+    ("dumps", FULL_POOL, lambda: [b"run,1000\n", b"dump\n"] * DUMPS),
+    ("settles", MOVING, lambda: RUNS, "run", "--effort", "255", "nbc"),
+    ("moves", MOVING, lambda: [b"run,1003\n", b"dump\n"] * DUMPS, "run", "--effort", "255", "nbc"),
     # lists the program, and reads no script
-    ("list", FULL, None),
+    ("list", FULL, None, "list"),
 )
 
 
@@ -167,13 +193,13 @@ def last_line(path):
     return size, lines[-1].decode() if lines else ""
 
 
-def run(nxt, name, program, script):
+def run(nxt, name, program, script, command):
     with tempfile.TemporaryDirectory() as folder:
         paths = [os.path.join(folder, file) for file in ("program", "script", "report")]
         for path, pieces in zip(paths, ([program], script or ())):
             with open(path, "wb") as f:
                 f.writelines(pieces)
-        words = ["list", paths[0]] if script is None else ["run", "rxe"] + paths[:2]
+        words = command + (paths[:1] if script is None else paths[:2])
         began = time.monotonic()
         child = os.posix_spawn(
             nxt,
@@ -194,9 +220,9 @@ def run(nxt, name, program, script):
 
 def main():
     nxt = os.path.abspath(sys.argv[1])
-    for name, program, script in CASES:
+    for name, program, script, *command in CASES:
         if sys.argv[2:] in ([], [name]):
-            run(nxt, name, program, script and script())
+            run(nxt, name, program, script and script(), command or ["run", "rxe"])
 
 
 main()

@@ -25,7 +25,7 @@ enum Command {
     AssembleAndRun,
 }
 
-const EXAMPLES: [(&str, Command); 49] = [
+const EXAMPLES: [(&str, Command); 54] = [
     ("motor", Command::Run),
     ("rising", Command::Run),
     ("average", Command::Run),
@@ -34,6 +34,7 @@ const EXAMPLES: [(&str, Command); 49] = [
     ("shared_motor", Command::Run),
     ("median", Command::Run),
     ("night_watch", Command::Run),
+    ("laps", Command::Run),
     ("line_follower", Command::Run),
     ("bumper", Command::Run),
     ("route", Command::Run),
@@ -41,6 +42,7 @@ const EXAMPLES: [(&str, Command); 49] = [
     ("shared_motor", Command::RunText),
     ("median", Command::RunText),
     ("night_watch", Command::RunText),
+    ("laps", Command::RunText),
     ("line_follower", Command::RunText),
     ("bumper", Command::RunText),
     ("route", Command::RunText),
@@ -61,6 +63,7 @@ const EXAMPLES: [(&str, Command); 49] = [
     ("shared_motor", Command::List),
     ("median", Command::List),
     ("night_watch", Command::List),
+    ("laps", Command::List),
     ("line_follower", Command::List),
     ("bumper", Command::List),
     ("route", Command::List),
@@ -68,10 +71,12 @@ const EXAMPLES: [(&str, Command); 49] = [
     ("shared_motor", Command::Assemble),
     ("median", Command::Assemble),
     ("night_watch", Command::Assemble),
+    ("laps", Command::Assemble),
     ("route", Command::Assemble),
     ("shared_motor", Command::AssembleAndRun),
     ("median", Command::AssembleAndRun),
     ("night_watch", Command::AssembleAndRun),
+    ("laps", Command::AssembleAndRun),
     ("line_follower", Command::AssembleAndRun),
     ("bumper", Command::AssembleAndRun),
     ("route", Command::AssembleAndRun),

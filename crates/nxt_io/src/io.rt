@@ -1,6 +1,6 @@
 // All devices.
 
-ghost use Rattle.std.specs.Prelude.{◌≡◌, length, ◌+◌, ◌<◌, ◌≤◌, ◌++◌, if◌then◌else◌, pos, drop, nat_lt, option_map, slice_get, slice_index_or, IfOk, IsOk, OnOk, OnErr};
+ghost use Rattle.std.specs.Prelude.{ℕ, ◌≡◌, length, ◌+◌, ◌<◌, ◌≤◌, ◌++◌, if◌then◌else◌, pos, drop, nat_lt, option_map, slice_get, slice_index_or, IfOk, IsOk, OnOk, OnErr};
 ghost use Rattle.nxt_model.specs.Devices.{at_start, set_out, get_out, update_flags, motor_at, commit, set_in, get_in, with_property, reading, tacho, button, pass, tone, set_sound, put_message, without_oldest, mailbox as messages_of};
 ghost use Rattle.nxt_io.specs.Taken.{taken, count_reset};
 
@@ -67,14 +67,18 @@ impl Io {
         })
     }
 
-    /// There are three motors and four sensors. The call does nothing.
+    /// There are three motors, each of fifteen properties, and four sensors. The call does nothing.
     pub fn is_sound(&self)
         ensures motors { length self.now.motors ≡ 3 }
+        ensures properties { (port : ℕ) → port < 3 → length (motor_at port self.now) ≡ 15 }
         ensures sensors { length self.now.sensors ≡ 4 }
     {
         let motors: &[Motor] = &self.motors;
         let sensors: &[Sensor] = &self.sensors;
         let _ports = (motors.len(), sensors.len());
+        motors[0].is_whole();
+        motors[1].is_whole();
+        motors[2].is_whole();
     }
 
     /// Stores a number in a property of a port's motor, cut to the property's kind (Executable File Specification,

@@ -1,6 +1,6 @@
 // One motor.
 
-ghost use Rattle.std.specs.Prelude.{◌≡◌, if◌then◌else◌, replicate, pos, slice_set, slice_index_or};
+ghost use Rattle.std.specs.Prelude.{◌≡◌, length, if◌then◌else◌, replicate, pos, slice_set, slice_index_or};
 ghost use Rattle.nxt_model.specs.Devices.{set_property as property_set, updated, update_flags, motor_line};
 ghost use Rattle.nxt_io.specs.Taken.{counted};
 
@@ -70,6 +70,14 @@ impl Motor {
             block_count: 0,
             rotation_count: 0,
         }
+    }
+
+    /// It has fifteen properties. The call does nothing.
+    pub fn is_whole(&self)
+        ensures { length self.now ≡ 15 }
+    {
+        // A field is read, which tells the proof how many properties there are.
+        let _flags = self.update_flags;
     }
 
     /// A property, or 0 where there is none with this number.

@@ -14,3 +14,9 @@ pub mod Numbers
 pub mod Elements
 -- Events from outside.
 pub mod Events
+-- Statements behind which the program goes on.
+pub mod Ends
+-- Bytecodes that tell nothing.
+pub mod Silent
+-- Statements on numbers alone that tell nothing.
+pub mod OnNumbers

@@ -1,11 +1,13 @@
--- What a dump of a machine shows, and the mark behind events.
+-- What a dump of a machine shows, and what an event tells.
 use Rattle.std.specs.Prelude.{◌≡◌, ℕ, List, [], ◌∷◌, map, length, take, Option}
 use Rattle.nxt_model.specs.Dump.{Dump, Mark, Shows, dump_lines, memory_of, mark_after, places_of}
+use Rattle.nxt_model.specs.Image.{program_of}
 use Rattle.nxt_model.specs.Program.{Program, State}
 use Rattle.nxt_model.specs.Reading.{HeldList}
 use Rattle.nxt_model.specs.Report.{content_of}
 use Rattle.nxt_model.specs.Step.{step}
 use Rattle.nxt_model.specs.declared.event.Event.{Event}
+use Rattle.nxt_model.specs.declared.event.Event.TheVariants as events
 use Rattle.nxt_model.specs.declared.line.Line.{Line}
 use Rattle.nxt_space.specs.Dumping.{places_in, unsettled_of}
 use Rattle.nxt_machine.specs.Machines.{MachineViews, space_of}
@@ -22,6 +24,11 @@ pub record DumpLines (m : MachineViews) (ls : List Line) : Type 0 where
   pub unsettled : dump.unsettled ≡ unsettled_of (space_of m)
   pub front : dump.bytes ≡ take (length dump.bytes) m.pool.bytes
   pub lines : ls ≡ dump_lines dump
+
+-- the lines that an event gives
+abbrev pub EventLines : MachineViews → Event → List Line → Type 0
+EventLines m events.Dump ls = DumpLines m ls
+EventLines m e ls = ls ≡ (step (program_of m.image) m.state e).lines
 
 -- the mark after events other than dumps
 abbrev pub marks_after : Program → ℕ → List Event → State → Option Mark → Option Mark

@@ -4,9 +4,9 @@
 pub mod Programs
 -- What a statement does, clumps aside, and what it does to clumps.
 pub mod Statements
+-- Which statements may stop the program.
+pub mod Stopping
 -- The statements of a turn that were made ready.
 pub mod Turns
 -- What stays where it is in the pool, by the parts that are written.
 pub mod Keeping
--- Ports that an operand names, as they are kept.
-pub mod Ports

@@ -1,7 +1,9 @@
 -- The numbers and ports that operands name, and what stops and motors make of them.
-use Rattle.std.specs.Prelude.{ℕ, Bool, ◌==◌, List, [], ◌∷◌, ℤ, filter}
+use Rattle.std.specs.Prelude.{ℕ, Bool, ◌==◌, if◌then◌else◌, List, [], ◌∷◌, ℤ, nat_abs, filter}
 use Rattle.std.specs.List.{list_any}
+use Rattle.nxt_types.specs.Arithmetic.{cut}
 use Rattle.nxt_types.specs.Names.{named}
+use Rattle.nxt_types.specs.declared.kind.Kind.TheVariants.{Ubyte}
 use Rattle.nxt_types.specs.declared.opcodes.Class.TheVariants.{OptionalRead}
 use Rattle.nxt_model.specs.Values.{number}
 use Rattle.nxt_model.specs.Variables.{part_of, refers, read}
@@ -27,6 +29,10 @@ abbrev pub with_pairs : Variables → List ℕ → List ℤ → List ℤ
 with_pairs s [] motor = motor
 with_pairs s (p ∷ []) motor = motor
 with_pairs s (p ∷ v ∷ more) motor = with_pairs s more (set_property p (number_at s v) motor)
+
+-- a motor's update flags, with a number stored in a property
+abbrev pub flags_set : ℕ → ℕ → ℤ → ℕ
+flags_set flags prop z = if prop == 0 then nat_abs (cut Ubyte z) else flags
 
 -- the change of a port's motor by such words, which takes them over where its flags say so
 abbrev pub set_motor_by : Variables → List ℕ → ℕ → Devices → Change

@@ -7,6 +7,7 @@ mod machine;
 mod naming;
 mod ports;
 mod program;
+mod room;
 mod rules;
 mod statement;
 mod turn;

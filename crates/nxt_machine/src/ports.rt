@@ -1,18 +1,18 @@
 // What a statement does to motors and sensors.
 
-ghost use Rattle.std.specs.Prelude.{◌≡◌, ◌<◌, ◌≤◌, ◌++◌, ◌==◌, ◌∷◌, [], ℕ, List, IfOk, IsSome, OnOk, drop, length, map, min, true};
+ghost use Rattle.std.specs.Prelude.{◌≡◌, ◌+◌, ◌<◌, ◌≤◌, ◌++◌, ◌==◌, ◌∷◌, [], ℕ, List, IsOk, IsSome, OnErr, OnOk, drop, length, map, min, true};
 ghost use Rattle.nxt_types.specs.Arithmetic.{word};
 ghost use Rattle.nxt_types.specs.OperandRules.{is_plain};
 ghost use Rattle.nxt_types.specs.Shapes.{is_number};
 ghost use Rattle.nxt_types.specs.Statements.{IsWhole, statement_of};
-ghost use Rattle.nxt_model.specs.Devices.{set_in, get_in, get_out, motor_at, with_motor};
+ghost use Rattle.nxt_model.specs.Devices.{set_in, get_in, get_out, motor_at, with_motor, update_flags};
 ghost use Rattle.nxt_model.specs.Values.{Num, stored};
 ghost use Rattle.nxt_space.specs.Keeping.{TableStays};
 ghost use Rattle.nxt_space.specs.Variables.{AreSound, name_of, shape_of, with_value};
-ghost use Rattle.nxt_machine.specs.Numbers.{number_at, with_pairs, ports_at, is_among, set_motor_by, set_motors_by};
-ghost use Rattle.nxt_machine.specs.Inside.Ports.{ports_in};
+ghost use Rattle.nxt_machine.specs.Numbers.{number_at, with_pairs, flags_set, ports_at, is_among, set_motor_by, set_motors_by};
 
 use crate::naming::number;
+use crate::room::room_if;
 use nxt_io::Io;
 use nxt_model::line::Lines;
 use nxt_operands::operands::is_number;
@@ -26,33 +26,15 @@ use std::alloc::Global;
 /// The ports of motors.
 const PORTS: [u8; 3] = [0, 1, 2];
 
+/// The property that holds a motor's update flags.
+const UPDATE_FLAGS: u16 = 0;
+
 /// A port that no device has.
 const NO_PORT: u32 = 255;
 
-/// The ports that an operand names.
-#[derive(Drop)]
-enum Ports {
-    One(u32),
-    Several(Flat),
-}
-
-impl Ports {
-    /// Those that the operand names which begins at an entry.
-    fn at(alloc: Global, space: &Space, i: u16) -> Result<Ports, NoMemory>
-        requires sound { AreSound space.now.vars }
-        requires named { IsSome (name_of space.now.vars i) }
-        requires plain { is_plain (shape_of space.now.vars i) ≡ true }
-        ensures { IfOk result (λ ports. ports_in ports ≡ ports_at space.now.vars i) }
-    {
-        if is_number(space, i) {
-            return Ok(Ports::One(wrap(space.get(i))));
-        }
-        Ok(Ports::Several(numbers_of(alloc, space, i)?))
-    }
-}
-
 /// Stores numbers in the properties of the motors that the first operand names, as the pairs of a statement tell, and has each
-/// take over what was stored where its flags say so ("SETOUT").
+/// take over what was stored where its flags say so ("SETOUT"). An `Err` changes nothing. Where the operand is a number, whose
+/// motor tells no line, it takes no memory.
 pub(crate) fn set_output(
     alloc: Global,
     space: &Space,
@@ -67,31 +49,18 @@ pub(crate) fn set_output(
     requires plain { is_plain (shape_of space.now.vars instr.now.a) ≡ true }
     ensures devices { OnOk result (io.new ≡ (set_motors_by space.now.vars (ports_at space.now.vars instr.now.a) (drop 1 (statement_of instr.now words.now).args) io.old).devices) }
     ensures lines { OnOk result (out.new.lines ≡ out.old.lines ++ (set_motors_by space.now.vars (ports_at space.now.vars instr.now.a) (drop 1 (statement_of instr.now words.now).args) io.old).lines) }
+    ensures same { OnErr result (io.new ≡ io.old) }
+    ensures told { OnErr result (out.new.lines ≡ out.old.lines) }
+    ensures silent { is_number (shape_of space.now.vars instr.now.a) ≡ true → (set_motors_by space.now.vars (ports_at space.now.vars instr.now.a) (drop 1 (statement_of instr.now words.now).args) io.old).lines ≡ [] → IsOk result }
 {
-    let ports = Ports::at(alloc, space, instr.a)?;
-    set_motors(space, io, &ports, instr, words, out)
-}
-
-// The same for the motors of these ports.
-fn set_motors(
-    space: &Space,
-    io: &mut Io,
-    ports: &Ports,
-    instr: &Instr,
-    words: &[u16],
-    out: &mut Lines,
-) -> Result<(), NoMemory>
-    requires whole { IsWhole words.now instr.now }
-    ensures devices { OnOk result (io.new ≡ (set_motors_by space.now.vars (ports_in ports.now) (drop 1 (statement_of instr.now words.now).args) io.old).devices) }
-    ensures lines { OnOk result (out.new.lines ≡ out.old.lines ++ (set_motors_by space.now.vars (ports_in ports.now) (drop 1 (statement_of instr.now words.now).args) io.old).lines) }
-{
-    match ports {
-        Ports::One(port) => set_one(space, io, *port, instr, words, out),
-        Ports::Several(all) => set_several(space, io, all, instr, words, out),
+    if is_number(space, instr.a) {
+        return set_one(space, io, wrap(space.get(instr.a)), instr, words, out);
     }
+    let ports = numbers_of(alloc, space, instr.a)?;
+    set_several(space, io, &ports, instr, words, out)
 }
 
-// The same for the motor of a port, if there is one.
+// The same for the motor of a port, if there is one. Room for its line is made first.
 fn set_one(
     space: &Space,
     io: &mut Io,
@@ -103,14 +72,20 @@ fn set_one(
     requires whole { IsWhole words.now instr.now }
     ensures devices { OnOk result (io.new ≡ (set_motors_by space.now.vars (port ∷ []) (drop 1 (statement_of instr.now words.now).args) io.old).devices) }
     ensures lines { OnOk result (out.new.lines ≡ out.old.lines ++ (set_motors_by space.now.vars (port ∷ []) (drop 1 (statement_of instr.now words.now).args) io.old).lines) }
+    ensures same { OnErr result (io.new ≡ io.old) }
+    ensures told { OnErr result (out.new.lines ≡ out.old.lines) }
+    ensures silent { (set_motors_by space.now.vars (port ∷ []) (drop 1 (statement_of instr.now words.now).args) io.old).lines ≡ [] → IsOk result }
 {
     if port >= 3 {
         return Ok(());
     }
+    io.is_sound();
+    let tells = flags_after(space, io, port as u8, instr, words) != 0;
+    room_if(tells, out)?;
     set_motor(space, io, port as u8, instr, words, out)
 }
 
-// The same for the motors of several ports.
+// The same for the motors of several ports. Room for all their lines is made first.
 fn set_several(
     space: &Space,
     io: &mut Io,
@@ -122,7 +97,10 @@ fn set_several(
     requires whole { IsWhole words.now instr.now }
     ensures devices { OnOk result (io.new ≡ (set_motors_by space.now.vars (map word ports.now) (drop 1 (statement_of instr.now words.now).args) io.old).devices) }
     ensures lines { OnOk result (out.new.lines ≡ out.old.lines ++ (set_motors_by space.now.vars (map word ports.now) (drop 1 (statement_of instr.now words.now).args) io.old).lines) }
+    ensures same { OnErr result (io.new ≡ io.old) }
+    ensures told { OnErr result (out.new.lines ≡ out.old.lines) }
 {
+    out.reserve(PORTS.len())?;
     for port in PORTS {
         if !has(ports, port) {
             continue;
@@ -139,7 +117,7 @@ fn has(ports: &Flat, port: u8) -> bool
     ports.as_slice().iter().any(|n| wrap(*n) == u32::from(port))
 }
 
-// The same for one motor.
+// The same for one motor. It takes no memory where there is room for its line, or where its flags ask for none.
 fn set_motor(
     space: &Space,
     io: &mut Io,
@@ -152,7 +130,11 @@ fn set_motor(
     requires port { port < 3 }
     ensures devices { OnOk result (io.new ≡ (set_motor_by space.now.vars (drop 1 (statement_of instr.now words.now).args) port io.old).devices) }
     ensures lines { OnOk result (out.new.lines ≡ out.old.lines ++ (set_motor_by space.now.vars (drop 1 (statement_of instr.now words.now).args) port io.old).lines) }
+    ensures succeeds { 0 < out.old.room → IsOk result }
+    ensures silent { update_flags (with_pairs space.now.vars (drop 1 (statement_of instr.now words.now).args) (motor_at port io.old)) ≡ 0 → IsOk result }
+    ensures room { out.old.room ≤ out.new.room + 1 }
 {
+    io.is_sound();
     store_pairs(space, io, port, instr, words);
     if io.flags(port) == 0 {
         return Ok(());
@@ -173,6 +155,35 @@ fn store_pairs(space: &Space, io: &mut Io, port: u8, instr: &Instr, words: &[u16
         let x = number(space, instr.operand(words, k + 1));
         io.set_out(port, property(instr.operand(words, k)), x);
         k += 2;
+    }
+}
+
+// The update flags that a motor will have once numbers are stored in its properties.
+fn flags_after(space: &Space, io: &Io, port: u8, instr: &Instr, words: &[u16]) -> u8
+    requires whole { IsWhole words.now instr.now }
+    requires port { port < 3 }
+    ensures { result ≡ update_flags (with_pairs space.now.vars (drop 1 (statement_of instr.now words.now).args) (motor_at port io.now)) }
+{
+    io.is_sound();
+    let count = instr.operand_count(words);
+    let mut flags = io.flags(port);
+    let mut k = 1;
+    while k + 1 < count {
+        let x = number(space, instr.operand(words, k + 1));
+        flags = flags_with(flags, instr.operand(words, k), x);
+        k += 2;
+    }
+    flags
+}
+
+// The update flags once a number is stored in a property, which is cut to a byte where they are it.
+fn flags_with(flags: u8, prop: u16, x: i64) -> u8
+    ensures { result ≡ flags_set flags prop x }
+{
+    if prop == UPDATE_FLAGS {
+        (wrap(x) % 0x100) as u8
+    } else {
+        flags
     }
 }
 

@@ -9,6 +9,7 @@ ghost use Rattle.nxt_clumps.specs.Answers.{stop_of as stop_for, stop_in as stop_
 ghost use Rattle.nxt_clumps.specs.Clumps.{head};
 ghost use Rattle.nxt_machine.specs.Inside.Programs.{IsProgram, AreClumpsOf, image_in};
 ghost use Rattle.nxt_machine.specs.Inside.Statements.{IsRuled, GoesOn, end_of as end_for};
+ghost use Rattle.nxt_machine.specs.Inside.Stopping.{may_stop as may_stop_by};
 
 use crate::naming::{number, stops};
 use crate::program::Program;
@@ -16,6 +17,7 @@ use crate::statement::Did;
 use nxt_clumps::{ClumpFault, Clumps};
 use nxt_code::StatementAt;
 use nxt_model::line::Stop;
+use nxt_space::Space;
 use nxt_types::instr::{Instr, Op};
 use nxt_types::numbers::wrap;
 
@@ -151,6 +153,18 @@ pub(crate) fn go_on(
             clumps.end_bytecode();
             Some(Stop::Memory(bytes))
         }
+    }
+}
+
+/// Whether a statement may stop the program, by its rule or because it leaves nobody to run.
+pub(crate) fn may_stop(space: &Space, i: &Instr) -> bool
+    ensures { result ≡ may_stop_by space.now.vars i.now }
+{
+    match i.op {
+        Op::Stop => stops(space, i.a),
+        Op::Finclump | Op::Finclumpimmed | Op::Acquire | Op::Release | Op::Subcall | Op::Subret =>
+            true,
+        _ => false,
     }
 }
 

@@ -1,8 +1,9 @@
 // What a statement does to variables and devices.
 
-ghost use Rattle.std.specs.Prelude.{◌≡◌, ◌≤◌, ◌^◌, slice_get, ℕ, List, IfOk, OnOk, Some, true, false};
+ghost use Rattle.std.specs.Prelude.{◌≡◌, ◌≤◌, ◌^◌, slice_get, ℕ, List, [], IfOk, IsOk, OnOk, OnErr, Some, true, false};
 ghost use Rattle.nxt_types.specs.Statements.{statement_of};
 ghost use Rattle.nxt_ops.specs.Ops.{runs as does_compute};
+ghost use Rattle.nxt_ops.specs.Ready.{on_numbers};
 ghost use Rattle.nxt_arrays.specs.Arrays.{runs as works_on_lists};
 ghost use Rattle.nxt_types.specs.declared.instr.Op.TheVariants as op;
 ghost use Rattle.nxt_model.specs.Devices.{Devices};
@@ -12,7 +13,9 @@ ghost use Rattle.nxt_space.specs.Keeping.{TableStays};
 ghost use Rattle.nxt_machine.specs.Inside.Keeping.{StatementStays};
 ghost use Rattle.nxt_machine.specs.Inside.Programs.{IsProgram, image_in};
 ghost use Rattle.nxt_sys.specs.Calls.{clock_of};
-ghost use Rattle.nxt_machine.specs.Inside.Statements.{Performs, IsDone};
+ghost use Rattle.nxt_machine.specs.Memory.{works_on_numbers};
+ghost use Rattle.nxt_machine.specs.Inside.Statements.{Performs, IsDone, IsUnmoved, effect_at, is_passed, operands_at};
+ghost use Rattle.nxt_machine.specs.Inside.Stopping.{may_stop};
 
 use crate::ports::{get_input, get_output, set_input, set_output};
 use crate::program::Program;
@@ -36,6 +39,15 @@ pub(crate) enum Did {
     Passed(u64),
 }
 
+impl Did {
+    /// Whether the pool doesn't hold its values.
+    pub(crate) fn is_passed(self) -> bool
+        ensures { result ≡ is_passed self }
+    {
+        matches!(self, Did::Passed(_))
+    }
+}
+
 /// Runs a statement that stands at a place. Where it is refused nothing has changed.
 pub(crate) fn perform(
     alloc: Global,
@@ -56,6 +68,16 @@ pub(crate) fn perform(
     ensures stays { StatementStays (clock_of clock) (statement_of placed.instr program.old.code.words) io.old program.old.space program.new.space }
     ensures image { image_in program.new ≡ image_in program.old }
     ensures code { program.new.code ≡ program.old.code }
+    ensures same { OnErr result (program.new ≡ program.old) }
+    ensures devices { OnErr result (io.new ≡ io.old) }
+    ensures told { OnErr result (out.new.lines ≡ out.old.lines) }
+    ensures passed { IfOk result (IsUnmoved program.old program.new) }
+
+    // A statement that may stop the program leaves the room of the lines.
+    ensures room { may_stop program.old.space.vars placed.instr ≡ true → out.new ≡ out.old }
+
+    // On numbers alone it takes no memory where it tells nothing.
+    ensures numbers { works_on_numbers placed.instr.op (operands_at program.old.space.vars (statement_of placed.instr program.old.code.words)) ≡ true → (effect_at (record { vars = program.old.space.vars; devices = io.old; lines = out.old.lines }) (clock_of clock) (statement_of placed.instr program.old.code.words)).lines ≡ [] → IsOk result }
 {
     match placed.instr.op {
         op if nxt_ops::runs(op) => compute(alloc, program, place, placed),
@@ -90,6 +112,11 @@ fn act(
     ensures stays { TableStays program.old.space program.new.space }
     ensures image { image_in program.new ≡ image_in program.old }
     ensures code { program.new.code ≡ program.old.code }
+    ensures same { OnErr result (program.new ≡ program.old) }
+    ensures devices { OnErr result (io.new ≡ io.old) }
+    ensures told { OnErr result (out.new.lines ≡ out.old.lines) }
+    ensures room { may_stop program.old.space.vars placed.instr ≡ true → out.new ≡ out.old }
+    ensures numbers { works_on_numbers placed.instr.op (operands_at program.old.space.vars (statement_of placed.instr program.old.code.words)) ≡ true → (effect_at (record { vars = program.old.space.vars; devices = io.old; lines = out.old.lines }) (clock_of clock) (statement_of placed.instr program.old.code.words)).lines ≡ [] → IsOk result }
 {
     program.space.is_sound();
     let instr = &placed.instr;
@@ -138,6 +165,10 @@ fn call(
     ensures stays { StatementStays (clock_of clock) (statement_of placed.instr program.old.code.words) io.old program.old.space program.new.space }
     ensures image { image_in program.new ≡ image_in program.old }
     ensures code { program.new.code ≡ program.old.code }
+    ensures same { OnErr result (program.new ≡ program.old) }
+    ensures devices { OnErr result (io.new ≡ io.old) }
+    ensures told { OnErr result (out.new.lines ≡ out.old.lines) }
+    ensures passed { IfOk result (IsUnmoved program.old program.new) }
 {
     program.space.is_sound();
     let (number, cluster) = (placed.instr.a, placed.instr.b);
@@ -164,6 +195,9 @@ fn compute(
     ensures stays { (d : Devices) (t : Moments) → StatementStays t (statement_of placed.instr program.old.code.words) d program.old.space program.new.space }
     ensures image { image_in program.new ≡ image_in program.old }
     ensures code { program.new.code ≡ program.old.code }
+    ensures same { OnErr result (program.new ≡ program.old) }
+    ensures passed { IfOk result (IsUnmoved program.old program.new) }
+    ensures numbers { on_numbers program.old.space.vars placed.instr ≡ true → IsOk result }
 {
     program.space.is_sound();
     match run_op(alloc, &placed.instr, &program.toc, &mut program.space) {
@@ -193,6 +227,8 @@ fn arrange(
     ensures stays { (d : Devices) (t : Moments) → StatementStays t (statement_of placed.instr program.old.code.words) d program.old.space program.new.space }
     ensures image { image_in program.new ≡ image_in program.old }
     ensures code { program.new.code ≡ program.old.code }
+    ensures same { OnErr result (program.new ≡ program.old) }
+    ensures passed { IfOk result (IsUnmoved program.old program.new) }
 {
     program.space.is_sound();
     match run_array(

@@ -2,6 +2,10 @@
 
 -- Two programs whose statements do the same run alike.
 pub mod Alike
+-- And what the second may tell, dumps and all, the first may tell.
+pub mod AlikeReports
+-- Compaction between any two bytecodes changes nothing but dumps.
+pub mod Compaction
 -- Statements that are no matter of clumps.
 pub mod PlainStatements
 -- A pool reads as at most one list of values.

@@ -18,6 +18,7 @@ pub mod Reading
 pub mod Spans
 pub mod Dump
 pub mod Report
+pub mod Compaction
 pub mod Nbc
 pub mod SameRuns
 pub mod ValueCodes

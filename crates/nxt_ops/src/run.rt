@@ -1,6 +1,6 @@
 // Statements that compute with variables, or jump.
 
-ghost use Rattle.std.specs.Prelude.{◌≡◌, true, false, IsSome, pos, ◌∷◌, []};
+ghost use Rattle.std.specs.Prelude.{◌≡◌, true, false, IsSome, IsOk, pos, ◌∷◌, []};
 ghost use Rattle.nxt_types.specs.OperandRules.{AreFit, is_plain, are_alike};
 ghost use Rattle.nxt_types.specs.Shapes.{convertible, is_number as is_number_shape};
 ghost use Rattle.nxt_model.specs.Devices.{Devices};
@@ -63,11 +63,13 @@ pub fn runs(op: Op) -> bool
 }
 
 /// Runs arithmetic, a comparison, a move or a jump (Executable File Specification, "Math", "Logic", "Comparison", "Data
-/// Manipulation" and "Control Flow"). Where it is refused nothing has changed.
+/// Manipulation" and "Control Flow"). Where it is refused nothing has changed. A statement on numbers alone always answers: it
+/// takes no memory.
 pub fn run_op(alloc: Global, i: &Instr, toc: &Toc, space: &mut Space) -> Result<Next, OpFault>
     requires { CanRun i.now toc.now space.old.vars }
     ensures does { (d : Devices) (t : Clock) → Does (λ next. next ≡ next_of i.now (effect_in space.old.vars i.now d t).jumps) (values_after space.old.vars i.now d t) space.old result space.new }
     ensures leaves { Leaves (dests i.now) space.old space.new }
+    ensures numbers { on_numbers space.old.vars i.now ≡ true → IsOk result }
 {
     // From place 0 it goes on at 0 where it jumps there, and else at 1.
     if let Some(place) = run_ready(&made_ready(i, space, 0), 0, space) {

@@ -1,7 +1,5 @@
 -- What the crates above may use: laws of a script's rows.
 
--- No row of a script is a dump.
-pub mod PlainRows
 -- Records that end in a front of a script.
 pub mod Records
 -- A bad row comes behind all the others.

@@ -30,9 +30,10 @@ pub no_form : (name : List ℕ) (fs : List (List ℕ))
     → bytes_eq name (codes "battery") ≡ false
     → bytes_eq name (codes "random") ≡ false
     → bytes_eq name (codes "compact") ≡ false
+    → bytes_eq name (codes "dump") ≡ false
     → None ≡ row_named name fs
-no_form name fs e0 e1 e2 e3 e4 e5 e6 e7 =
-    rw (other name (codes "run") e0, other name (codes "tick") e1, other name (codes "reading") e2, other name (codes "tacho") e3, other name (codes "button") e4, other name (codes "battery") e5, other name (codes "random") e6, other name (codes "compact") e7) refl
+no_form name fs e0 e1 e2 e3 e4 e5 e6 e7 e8 =
+    rw (other name (codes "run") e0, other name (codes "tick") e1, other name (codes "reading") e2, other name (codes "tacho") e3, other name (codes "button") e4, other name (codes "battery") e5, other name (codes "random") e6, other name (codes "compact") e7, other name (codes "dump") e8) refl
 
 -- ---- the row of a record
 

@@ -4,7 +4,7 @@ use Rattle.std.specs.Prelude.{pos, negsuc, codes}
 use Rattle.csv.specs.Machine.{next_record}
 use Rattle.csv.specs.Reading.{strip_bom}
 use Rattle.hex.specs.Hex.{decode_pairs}
-use Rattle.nxt_model.specs.declared.event.Event.TheVariants.{Tick, Reading, Tacho, Telegram}
+use Rattle.nxt_model.specs.declared.event.Event.TheVariants.{Tick, Reading, Tacho, Telegram, Dump}
 use Rattle.nxt_model.specs.declared.event.ScriptRow.{ScriptRow}
 use Rattle.nxt_model.specs.declared.event.ScriptRow.TheVariants.{Run, One}
 use Rattle.nxt_model.specs.Report.{End, Whole, Bad, TooLarge}
@@ -22,10 +22,10 @@ bad_name : rows (codes "run,100\ntick,5\nfoo,1\n") ≡ listing (Run 100 ∷ One 
 unfolding next_record strip_bom
 bad_name = refl
 
--- a dump has no row
-no_dump : rows (codes "run,1\ndump\n") ≡ listing (Run 1 ∷ []) (Bad 2) false
+-- a dump has no fields
+a_dump : rows (codes "run,1\ndump\ndump,\n") ≡ listing (Run 1 ∷ One Dump ∷ []) (Bad 3) false
 unfolding next_record strip_bom
-no_dump = refl
+a_dump = refl
 
 reading : rows (codes "reading,2,500,512,-60\n") ≡ listing (One (Reading 2 500 512 (negsuc 59)) ∷ []) (Whole 1) false
 unfolding next_record strip_bom
@@ -71,6 +71,11 @@ too_many : rows (codes "run,1000000\nrun,1000000\nrun,1000000\nrun,1000000\nrun,
     ≡ listing (Run 1000000 ∷ Run 1000000 ∷ Run 1000000 ∷ Run 1000000 ∷ Run 0 ∷ []) (Bad 6) true
 unfolding next_record strip_bom
 too_many = refl
+
+-- the last dump, and one more
+too_many_dumps : rows_from (record no_counts { records = 255; dumps = 255 }) (codes "dump\nrun,1\ndump\n") ≡ listing (One Dump ∷ Run 1 ∷ []) (Bad 258) true
+unfolding next_record strip_bom
+too_many_dumps = refl
 
 -- a script whose last line ends past the limit
 too_large : rows_from (record no_counts { bytes = 16777210; records = 4 }) (codes "run,1\nrun,2") ≡ listing (Run 1 ∷ []) TooLarge false

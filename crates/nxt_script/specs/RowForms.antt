@@ -1,10 +1,10 @@
--- The forms of a script's rows. A row of a dump has none yet.
+-- The forms of a script's rows.
 use Rattle.std.specs.Prelude.{ℕ, ◌&&◌, if◌then◌else◌, ◌==◌, nat_lt, nat_le, List, [], ◌∷◌, length, find, slice_index_or, codes, ℤ, pos, neg_ℤ, int_le, int_lt, nat_abs, Option, Some, None, option_map, option_and_then, Result, Ok, Err, bytes_eq}
 use Rattle.std.specs.Str.{all_ascii_digits}
 use Rattle.std.specs.Str.Parse.{digits_value}
 use Rattle.hex.specs.Hex.{decode_of}
 use Rattle.hex.specs.declared.error.FromHexError.{FromHexError}
-use Rattle.nxt_model.specs.declared.event.Event.TheVariants.{Tick, Reading, Tacho, Button, Battery, Random, Telegram, Compact}
+use Rattle.nxt_model.specs.declared.event.Event.TheVariants.{Tick, Reading, Tacho, Button, Battery, Random, Telegram, Compact, Dump}
 use Rattle.nxt_model.specs.declared.event.ScriptRow.{ScriptRow}
 use Rattle.nxt_model.specs.declared.event.ScriptRow.TheVariants.{Run, One}
 
@@ -88,6 +88,7 @@ forms =
     ∷ form (codes "battery") (u16 ∷ []) (λ z. One (Battery (nat_abs (z 0))))
     ∷ form (codes "random") (i16 ∷ []) (λ z. One (Random (z 0)))
     ∷ form (codes "compact") (u16 ∷ []) (λ z. One (Compact (nat_abs (z 0))))
+    ∷ form (codes "dump") [] (λ z. One Dump)
     ∷ []
 
 abbrev pub row_by : Option Form → List (List ℕ) → Option ScriptRow

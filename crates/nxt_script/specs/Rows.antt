@@ -4,6 +4,7 @@ use Rattle.std.specs.List.{slice_split}
 use Rattle.csv.specs.Machine.{next_record}
 use Rattle.csv.specs.Reading.{default_config, strip_bom}
 use Rattle.csv.specs.declared.parser.State.TheVariants as states
+use Rattle.nxt_model.specs.declared.event.Event.TheVariants.{Dump}
 use Rattle.nxt_model.specs.declared.event.ScriptRow.{ScriptRow}
 use Rattle.nxt_model.specs.declared.event.ScriptRow.TheVariants.{Run, One}
 use Rattle.nxt_model.specs.Report.{End, Whole, Bad, TooLarge}
@@ -20,25 +21,33 @@ most_rows = 100000
 abbrev pub most_bytecodes : ℕ
 most_bytecodes = 4000000
 
+abbrev pub most_dumps : ℕ
+most_dumps = 256
+
 -- what the limits count, of the part of a script that was read
 pub record Counts : Type 0 where
   pub bytes : ℕ
   pub records : ℕ
   pub bytecodes : ℕ
+  pub dumps : ℕ
 
 abbrev pub no_counts : Counts
-no_counts = record { bytes = 0; records = 0; bytecodes = 0 }
+no_counts = record { bytes = 0; records = 0; bytecodes = 0; dumps = 0 }
 
 abbrev pub bytecodes_in : ScriptRow → ℕ
 bytecodes_in (Run n) = n
 bytecodes_in (One e) = 0
 
+abbrev pub dumps_in : ScriptRow → ℕ
+dumps_in (One Dump) = 1
+dumps_in _ = 0
+
 -- with one more row
 abbrev pub counted : ScriptRow → Counts → Counts
-counted r c = record c { records = c.records + 1; bytecodes = c.bytecodes + bytecodes_in r }
+counted r c = record c { records = c.records + 1; bytecodes = c.bytecodes + bytecodes_in r; dumps = c.dumps + dumps_in r }
 
 abbrev pub passes_limit : Counts → Bool
-passes_limit c = nat_lt most_rows c.records || nat_lt most_bytecodes c.bytecodes
+passes_limit c = nat_lt most_rows c.records || nat_lt most_bytecodes c.bytecodes || nat_lt most_dumps c.dumps
 
 -- ---- records
 

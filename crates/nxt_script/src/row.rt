@@ -142,6 +142,16 @@ fn compact(fields: &ByteRecord) -> Option<ScriptRow>
     Some(ScriptRow::One(Event::Compact(bytes as u16)))
 }
 
+// A dump has no fields.
+fn dump(fields: &ByteRecord) -> Option<ScriptRow>
+    ensures { result ≡ row_of (codes "dump" ∷ drop 1 (fields_of fields.now)) }
+{
+    if fields.len() > 1 {
+        return None;
+    }
+    Some(ScriptRow::One(Event::Dump))
+}
+
 // ---- names
 
 const RUN: &[u8] = b"run";
@@ -160,7 +170,9 @@ const RANDOM: &[u8] = b"random";
 
 const COMPACT: &[u8] = b"compact";
 
-// The row of a name that numbers follow.
+const DUMP: &[u8] = b"dump";
+
+// The row of a name that numbers follow, or nothing.
 fn row_of_numbers(name: &[u8], fields: &ByteRecord) -> Option<ScriptRow>
     ensures { result ≡ row_by (find (λ f. bytes_eq f.name name.now) forms) (drop 1 (fields_of fields.now)) }
 {
@@ -180,6 +192,8 @@ fn row_of_numbers(name: &[u8], fields: &ByteRecord) -> Option<ScriptRow>
         random(fields)
     } else if name == COMPACT {
         compact(fields)
+    } else if name == DUMP {
+        dump(fields)
     } else {
         None
     }

@@ -6,7 +6,7 @@ ghost use Rattle.std.specs.Io.KnownBytes.{Consumes};
 ghost use Rattle.csv.specs.Records.{fields_of};
 ghost use Rattle.nxt_edge.specs.Edge.{Rose};
 ghost use Rattle.nxt_script.specs.RowForms.{row_of};
-ghost use Rattle.nxt_script.specs.Rows.{Counts, Listing, bytecodes_in, counted, ends_line, listed, most_bytes, no_counts, passes_limit, rows_from};
+ghost use Rattle.nxt_script.specs.Rows.{Counts, Listing, bytecodes_in, counted, dumps_in, ends_line, listed, most_bytes, no_counts, passes_limit, rows_from};
 ghost use Rattle.nxt_script.specs.Scripts.{Front, IsFault};
 ghost use Rattle.nxt_script.specs.Ahead.{IsNear};
 ghost use Rattle.nxt_script.specs.Inside.{Finds, FindsFault, FindsRecord, HasLine, IsLine, Passes, PassesLine, Reads, MayFollow};
@@ -16,7 +16,7 @@ use crate::record::{LINE_BYTES, record};
 use crate::row::row;
 use csv::ByteRecord;
 use nxt_edge::{Source, read_some};
-use nxt_model::event::ScriptRow;
+use nxt_model::event::{Event, ScriptRow};
 use nxt_types::Bytes;
 use std::alloc::Global;
 use std::marker::Model;
@@ -30,6 +30,8 @@ const PIECE: usize = 4_096;
 const ROWS: u32 = 100_000;
 
 const BYTECODES: u32 = 4_000_000;
+
+const DUMPS: u32 = 256;
 
 // The length of the first line of some bytes.
 fn line_end(bytes: &[u8]) -> usize
@@ -51,6 +53,16 @@ fn bytecodes_of(row: &ScriptRow) -> u32
     }
 }
 
+// How many dumps a row asks for.
+fn dumps_of(row: &ScriptRow) -> u32
+    ensures { result ≡ dumps_in row.now }
+{
+    match row {
+        ScriptRow::One(Event::Dump) => 1,
+        _ => 0,
+    }
+}
+
 /// The front of a script: the lines that were passed, with their rows counted, and the bytes that were taken behind them.
 #[derive(Drop)]
 pub(crate) struct Text {
@@ -62,19 +74,20 @@ pub(crate) struct Text {
     passed: usize,
     rows: u32,
     bytecodes: u32,
+    dumps: u32,
 }
 
 impl Model for Text {
     ghost use Rattle.std.specs.Prelude.{◌≤◌, length, drop};
-    ghost use Rattle.nxt_script.specs.Rows.{most_bytes, most_rows, most_bytecodes};
+    ghost use Rattle.nxt_script.specs.Rows.{most_bytes, most_rows, most_bytecodes, most_dumps};
     ghost use Rattle.nxt_script.specs.Scripts.{Front};
     ghost use Rattle.nxt_script.specs.Ahead.{most_ahead};
 
     ghost Value = { Front };
 
-    ghost view = { λ t. record { counts = record { bytes = t.passed; records = t.rows; bytecodes = t.bytecodes }; pending = drop t.at t.taken; ended = t.ended } };
+    ghost view = { λ t. record { counts = record { bytes = t.passed; records = t.rows; bytecodes = t.bytecodes; dumps = t.dumps }; pending = drop t.at t.taken; ended = t.ended } };
 
-    ghost invariant = { λ t. (t.at ≤ length t.taken) × (length t.taken ≤ most_ahead) × (t.passed ≤ most_bytes) × (t.rows ≤ most_rows) × (t.bytecodes ≤ most_bytecodes) };
+    ghost invariant = { λ t. (t.at ≤ length t.taken) × (length t.taken ≤ most_ahead) × (t.passed ≤ most_bytes) × (t.rows ≤ most_rows) × (t.bytecodes ≤ most_bytecodes) × (t.dumps ≤ most_dumps) };
 }
 
 impl Text {
@@ -89,6 +102,7 @@ impl Text {
             passed: 0,
             rows: 0,
             bytecodes: 0,
+            dumps: 0,
         }
     }
 
@@ -210,11 +224,16 @@ impl Text {
             return Err(ScriptFault::Row(self.rows + 1));
         };
         let bytecodes = bytecodes_of(&found);
-        if self.rows >= ROWS || bytecodes > BYTECODES - self.bytecodes {
+        let dumps = dumps_of(&found);
+        if self.rows >= ROWS
+            || bytecodes > BYTECODES - self.bytecodes
+            || dumps > DUMPS - self.dumps
+        {
             return Err(ScriptFault::TooMany(self.rows + 1));
         }
         self.rows += 1;
         self.bytecodes += bytecodes;
+        self.dumps += dumps;
         Ok(found)
     }
 

@@ -1,12 +1,11 @@
 -- What holds of the file of every assembled text: it is accepted, with the text's image and footprint.
-use Rattle.std.proofs.Common.{◌≡◌, ℕ, List, [], ◌∷◌, ◌++◌, map, sym, ap, subst}
+use Rattle.std.proofs.Common.{◌≡◌, ℕ, List, sym, ap, subst}
 use Rattle.nxt_types.specs.Refusals.{IsAccepted}
-use Rattle.nxt_types.specs.Shapes.{Members, Number, Shape, members}
-use Rattle.nxt_types.specs.declared.kind.Kind.TheVariants.{Slong}
+use Rattle.nxt_types.specs.Shapes.{Members, members}
 use Rattle.nxt_model.specs.Assembled.{all_shapes, assembled}
 use Rattle.nxt_model.specs.Image.{Image}
 use Rattle.nxt_model.specs.SameRuns.{IsFaithful}
-use Rattle.nxt_model.specs.TextProgram.{Text, constants, declared, returns, shapes, text_of, text_shape, texts}
+use Rattle.nxt_model.specs.TextProgram.{Text, text_of}
 use Rattle.nxt_model.specs.declared.nbc.NbcProgram.{NbcProgram}
 use Rattle.nxt_rxe.specs.Files.{file_of}
 use Rattle.nxt_nbc.specs.Checked.{IsParsed, Spells}
@@ -15,12 +14,10 @@ use Rattle.nxt_limits.specs.AsmRules.{Broken, start_footprint}
 use Rattle.nxt_limits.proofs.Laws.Files.{file_is}
 use Rattle.nxt_sound_code.proofs.Laws.Accepted.{code_accepted}
 use Rattle.nxt_sound_layout.proofs.Laws.Accepted.{footprint_is, layout_accepted, rows_are, starts_as}
-use Rattle.nxt_sound_layout.proofs.Laws.Parts.{AreVariables}
-use Rattle.nxt_sound_layout.proofs.Laws.TableAccepted.{variables}
 use Rattle.nxt_sound_runs.proofs.Laws.{faithful}
+use Rattle.nxt_sound_runs.proofs.Spelled.{spelled_program}
 use Rattle.nxt_tool.specs.Accepted.{BreaksNone, IsAcceptedAs, IsSoundFile}
 use Rattle.nxt_tool.specs.Assembling.{IsAssembled}
-use Rattle.nxt_sound_files.proofs.Typed.{typed}
 
 abbrev with_rows : Image → ℕ → Image
 with_rows i n = record i { rows = n }
@@ -58,18 +55,7 @@ module _ (text : List ℕ) (p : NbcProgram) (parsed : IsParsed text p) (kept : I
     },
   )
 
--- ---- texts
-
-variables_front : (xs ys : List Shape) → AreVariables (members (xs ++ ys)) → AreVariables (members xs)
-variables_front [] ys h = tt
-variables_front (x ∷ xs) ys h = (h.0, variables_front xs ys h.1)
-
--- what a text spells is a program
-pub spelled_program : (text : List ℕ) (t : Text) → Spells text t → (p : NbcProgram) × (text_of p ≡ t)
-spelled_program text t spells =
-    let numbers : List Shape = map (λ z. Number Slong) (constants t) in
-    let others : List Shape = map (λ s. text_shape) (texts t) in
-    typed t (variables_front (declared t) (returns t) (variables_front (shapes t) numbers (variables_front (shapes t ++ numbers) others (variables text t spells))))
+-- ---- files
 
 -- what holds of the program of each text that is assembled
 by_program : (P : Text → List ℕ → Type 0) → ((text : List ℕ) (p : NbcProgram) → IsParsed text p → IsAccepted (Broken (text_of p)) → P (text_of p) (file_of (parts_of (text_of p))))
@@ -82,8 +68,6 @@ by_program P h text file line i =
     let kept : IsAccepted (Broken (text_of p)) = subst (λ t. IsAccepted (Broken t)) (sym same) i.kept in
     subst (P i.program) (sym i.file_is) (subst (λ t. P t (file_of (parts_of t))) same (h text p parsed kept))
 
--- ---- files
-
 -- the file of an assembled text is accepted, with the image that the text is assembled to
 pub accepted : (text file line : List ℕ) (i : IsAssembled text file line) → IsAcceptedAs file (assembled i.program)
 accepted = by_program (λ t file. IsAcceptedAs file (assembled t)) as_image
@@ -92,6 +76,6 @@ accepted = by_program (λ t file. IsAcceptedAs file (assembled t)) as_image
 pub footprint_told : (text file line : List ℕ) (i : IsAssembled text file line) → IsSoundFile file (start_footprint i.program)
 footprint_told = by_program (λ t file. IsSoundFile file (start_footprint t)) as_sound
 
--- this image has the text's lines and stops, whatever happens
+-- this image has the text's lines and stops, whatever happens, and what it may tell the text may tell
 pub runs_alike : (text file line : List ℕ) (i : IsAssembled text file line) → IsFaithful i.program
 runs_alike = by_program (λ t file. IsFaithful t) faithful

@@ -1,8 +1,9 @@
 -- Values with constants behind them: they are read, and values are stored in front of them.
-use Rattle.std.proofs.Common.{◌≡◌, ℕ, zero, suc, ◌+◌, ◌<◌, List, [], ◌∷◌, ◌++◌, map, length, get_or, set, refl, sym, ap, subst, ◌∙◌, arith}
+use Rattle.std.proofs.Common.{◌≡◌, ℕ, zero, suc, ◌+◌, ◌<◌, List, [], ◌∷◌, ◌++◌, map, length, get_or, set, refl, sym, ap, ap₂, subst, ◌∙◌, arith}
 use Rattle.std.specs.Prelude.{⊤, pos, slice_index_or}
 use Rattle.std.proofs.lemmas.List.{get_or-append-add, get_or_append_left, length-set, set-append_left}
 use Rattle.nxt_facts.proofs.Each.{Each}
+use Rattle.nxt_model.specs.Dump.{Written, shape_under, written_by, written_under}
 use Rattle.nxt_model.specs.Means.Effects.{Given, Store}
 use Rattle.nxt_model.specs.Values.{Value, Num, elements, group_of, part, with_part}
 use Rattle.nxt_model.specs.Variables.{Reference, PartOf, Constant, Plain, Target, Absent, put, put_all, read}
@@ -17,6 +18,11 @@ StartsBelow n (k ∷ ks) = k < n
 abbrev pub IsPlace : Reference → Type 0
 IsPlace (Constant s v) = ⊥
 IsPlace _ = ⊤
+
+-- and so is a part of that part
+starts_under : (n : ℕ) (ks path : List ℕ) → StartsBelow n ks → StartsBelow n (ks ++ path)
+starts_under n [] path lt = absurd lt
+starts_under n (k ∷ ks) path lt = lt
 
 -- what stands for a value that isn't there
 abbrev pub zero_value : Value
@@ -102,11 +108,7 @@ module _ (n : ℕ) (cs : List Value) where
   put_group : (i j : Reference) (path : List ℕ) (w : Value) (vs : List Value) → Agrees i j → IsPlace i → length vs ≡ n
       → (put j path w (group_of (vs ++ cs)) ≡ more (put i path w (group_of vs))) × IsWhole (put i path w (group_of vs))
   put_group (PartOf x) j path w vs h place many =
-      let both = set_front vs (x.path ++ path) w many (starts x.path h.1) in (ap (λ r. put r path w (group_of (vs ++ cs))) h.0 ∙ both.0, both.1)
-    where
-      starts : (ks : List ℕ) → StartsBelow n ks → StartsBelow n (ks ++ path)
-      starts [] lt = absurd lt
-      starts (k ∷ ks) lt = lt
+      let both = set_front vs (x.path ++ path) w many (starts_under n x.path path h.1) in (ap (λ r. put r path w (group_of (vs ++ cs))) h.0 ∙ both.0, both.1)
   put_group (Constant s v) j path w vs h place many = absurd place
   put_group (Plain m) j path w vs h place many = (ap (λ r. put r path w (group_of (vs ++ cs))) h ∙ sym (more_group vs), (vs, refl, many))
   put_group Target j path w vs h place many = (ap (λ r. put r path w (group_of (vs ++ cs))) h ∙ sym (more_group vs), (vs, refl, many))
@@ -134,3 +136,31 @@ module _ (n : ℕ) (cs : List Value) where
       let one = put_same i j s.path s.value v (agrees_at is js s.operand h) places.0 whole in
       let rest = puts_same is js ss (put i s.path s.value v) h places.1 one.1 in
       (ap (put_all js ss) one.0 ∙ rest.0, rest.1)
+
+  -- ---- written parts
+
+  part_same : (path : List ℕ) (v : Value) → StartsBelow n path → IsWhole v → part path (more v) ≡ part path v
+  part_same path v lt whole =
+      subst (λ u. part path (more u) ≡ part path u) (sym whole.1) (ap (part path) (more_group whole.0) ∙ part_front whole.0 path whole.2 lt)
+
+  under_same : (i j : Reference) (path : List ℕ) (v w : Value) → Agrees i j → IsPlace i → IsWhole v → IsWhole w → written_under j path (more v) (more w) ≡ written_under i path v w
+  under_same (PartOf x) j path v w h place whole after =
+      let own : List ℕ = x.path ++ path in
+      let below : StartsBelow n own = starts_under n x.path path h.1 in
+      let one : Value → Value → List Written = λ b a. record { shape = shape_under x.shape path; before = b; after = a } ∷ [] in
+      ap (λ r. written_under r path (more v) (more w)) h.0
+      ∙ ap (λ b. one b (part own (more w))) (part_same own v below whole)
+      ∙ ap (λ a. one (part own v) a) (part_same own w below after)
+  under_same (Constant s c) j path v w h place whole after = absurd place
+  under_same (Plain m) j path v w h place whole after = ap (λ r. written_under r path (more v) (more w)) h
+  under_same Target j path v w h place whole after = ap (λ r. written_under r path (more v) (more w)) h
+  under_same Absent j path v w h place whole after = ap (λ r. written_under r path (more v) (more w)) h
+
+  -- stores write the same parts
+  pub writes_same : (is js : List Reference) (ss : List Store) (v w : Value) → AgreeAll is js → Each (λ (s : Store). IsPlace (slice_index_or is s.operand Absent)) ss → IsWhole v → IsWhole w
+      → written_by js (more v) (more w) ss ≡ written_by is v w ss
+  writes_same is js [] v w h places whole after = refl
+  writes_same is js (s ∷ ss) v w h places whole after =
+      ap₂ (λ (xs ys : List Written). xs ++ ys)
+      (under_same (slice_index_or is s.operand Absent) (slice_index_or js s.operand Absent) s.path v w (agrees_at is js s.operand h) places.0 whole after)
+      (writes_same is js ss v w h places.1 whole after)

@@ -1,5 +1,5 @@
 -- An assembled text runs as the text.
-use Rattle.std.proofs.Common.{◌≡◌, ℕ, zero, suc, ◌<◌, ◌≤◌, List, [], ◌∷◌, ◌++◌, map, length, refl, sym, ap, subst, ◌∙◌, arith}
+use Rattle.std.proofs.Common.{◌≡◌, ℕ, zero, suc, ◌<◌, ◌≤◌, List, [], ◌∷◌, ◌++◌, map, length, refl, sym, ap, subst, ◌∙◌, append_assoc, arith}
 use Rattle.std.specs.Prelude.{slice_index_or, sum_by}
 use Rattle.nxt_facts.proofs.Each.{Each}
 use Rattle.nxt_types.specs.Names.{size}
@@ -11,13 +11,17 @@ use Rattle.nxt_model.specs.declared.nbc.NbcBlock.{NbcBlock}
 use Rattle.nxt_model.specs.declared.nbc.NbcProgram.{NbcProgram}
 use Rattle.nxt_model.specs.declared.nbc.NbcStatement.{NbcStatement}
 use Rattle.nxt_model.specs.Assembled.{all_shapes, assembled, code_from, records_from}
+use Rattle.nxt_model.specs.Dump.{content_with}
 use Rattle.nxt_model.specs.Image as image
 use Rattle.nxt_model.specs.Image.{Image}
+use Rattle.nxt_model.specs.Program.{State}
+use Rattle.nxt_model.specs.Report.{content_of, text_content}
 use Rattle.nxt_model.specs.SameRuns.{IsFaithful, RunAlike}
 use Rattle.nxt_model.specs.TextProgram as text
-use Rattle.nxt_model.specs.TextProgram.{Text, constants, declared, returns, shapes, text_of, text_shape, texts}
-use Rattle.nxt_model.specs.Values.{Value}
-use Rattle.nxt_model.proofs.Laws.Alike.{Extends, run_alike}
+use Rattle.nxt_model.specs.TextProgram.{Text, constants, declared, returns, shapes, text_of, text_shape, text_value, texts}
+use Rattle.nxt_model.specs.Values.{Value, Num, elements, group_of}
+use Rattle.nxt_model.proofs.Laws.Alike.{Extends, big, run_alike}
+use Rattle.nxt_model.proofs.Laws.AlikeReports.{may_tell}
 use Rattle.nxt_nbc.specs.Checked.{IsParsed}
 use Rattle.nxt_layout.specs.Start.{image_of}
 use Rattle.nxt_parts.specs.AssembledParts.{parts_of}
@@ -117,12 +121,24 @@ module _ (bytes : List ℕ) (p : NbcProgram) (parsed : IsParsed bytes p) (accept
     code = same_at n cs (text.program_of t).code (image.program_of (assembled t)).code code_alike;
   }
 
--- the image of an accepted text has the same lines and stops, whatever happens
+  -- a dump shows the same
+  same_content : (st : State) → IsWhole n cs st.values → content_of (assembled t) (big (IsWhole n cs) (more n cs) st) ≡ text_content t st
+  same_content st whole =
+      ap (λ vs. content_with (assembled t) (group_of vs) st.rows) (sym (append_assoc (elements st.values) (map Num (constants t)) (map text_value (texts t))))
+
+-- the image of an accepted text has the same lines and stops, whatever happens, and what it may tell the text may tell
 pub faithful : (bytes : List ℕ) (p : NbcProgram) → IsParsed bytes p → IsAccepted (Broken (text_of p)) → IsFaithful (text_of p)
 faithful bytes p parsed accepted =
-    let n : ℕ = variable_count (text_of p) in
-    let cs : List Value = constant_values (text_of p) in
-    run_alike (IsWhole n cs) (more n cs) (text.program_of (text_of p)) (image.program_of (assembled (text_of p))) (extends bytes p parsed accepted)
+    let t : Text = text_of p in
+    let n : ℕ = variable_count t in
+    let cs : List Value = constant_values t in
+    let both = extends bytes p parsed accepted in
+    record {
+      runs = run_alike (IsWhole n cs) (more n cs) (text.program_of t) (image.program_of (assembled t)) both;
+      tells = λ effort.
+          may_tell (IsWhole n cs) (more n cs) (text.program_of t) (image.program_of (assembled t)) both effort (text_content t) (content_of (assembled t))
+          (same_content bytes p parsed accepted);
+    }
 
 -- and so have the parts that it is assembled to
 pub runs : (bytes : List ℕ) (p : NbcProgram) → IsParsed bytes p → IsAccepted (Broken (text_of p)) → RunsAs (text_of p) (parts_of (text_of p))
@@ -134,5 +150,5 @@ runs bytes p parsed accepted =
       shapes = ss;
       values = own.values;
       starts = starts_as bytes p parsed accepted;
-      alike = subst (λ i. RunAlike (text.program_of (text_of p)) (image.program_of i)) same (faithful bytes p parsed accepted);
+      alike = subst (λ i. RunAlike (text.program_of (text_of p)) (image.program_of i)) same (faithful bytes p parsed accepted).runs;
     }

@@ -16,3 +16,7 @@ mod AlikeStatements
 mod AlikeCode
 -- The values, the lists, the rows and the footprint of a text and of its image.
 mod AtStart
+-- What a text spells is the program of types: each shape that a text's variables may have is that of a type over structs.
+mod Typed
+-- What holds of each text that is accepted, whatever spells it.
+pub mod Spelled

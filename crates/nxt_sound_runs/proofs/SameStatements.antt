@@ -1,8 +1,8 @@
 -- Statements whose operands agree do the same.
-use Rattle.std.proofs.Common.{◌≡◌, ℕ, Bool, true, false, List, map, refl, sym, ap, ◌∙◌, ◌⊎◌, inl, inr}
+use Rattle.std.proofs.Common.{◌≡◌, ℕ, Bool, true, false, List, ◌++◌, map, refl, sym, ap, ◌∙◌, ◌⊎◌, inl, inr}
 use Rattle.std.specs.Prelude.{slice_index_or}
 use Rattle.std.proofs.lemmas.Bool.{both_ways}
-use Rattle.nxt_facts.proofs.Each.{Each, each_then}
+use Rattle.nxt_facts.proofs.Each.{Each, each_join, each_then}
 use Rattle.nxt_types.specs.OperandRules.{is_destination}
 use Rattle.nxt_types.specs.declared.instr.Op.{Op}
 use Rattle.nxt_types.specs.declared.instr.Op.TheVariants as ops
@@ -10,6 +10,7 @@ use Rattle.nxt_types.specs.declared.kind.Cmp.{Cmp}
 use Rattle.nxt_code.specs.CodeRules.{is_jump}
 use Rattle.nxt_model.specs.Clumps.{Clumps, Plan}
 use Rattle.nxt_model.specs.Devices.{Devices}
+use Rattle.nxt_model.specs.Dump.{written_by}
 use Rattle.nxt_model.specs.Means.{means, operand_at}
 use Rattle.nxt_model.specs.Means.Effects.{Effect, Operand, Store}
 use Rattle.nxt_model.specs.Program.{Instruction}
@@ -18,7 +19,7 @@ use Rattle.nxt_model.specs.SystemCalls.{Clock}
 use Rattle.nxt_model.specs.Values.{Value}
 use Rattle.nxt_model.specs.Variables.{Absent, put_all, read}
 use Rattle.nxt_model.proofs.Laws.Alike.{Same, effect_of}
-use Rattle.nxt_sound_runs.proofs.Constants.{AgreeAll, IsPlace, IsWhole, more, puts_same, reads_same}
+use Rattle.nxt_sound_runs.proofs.Constants.{AgreeAll, IsPlace, IsWhole, more, puts_same, reads_same, writes_same}
 use Rattle.nxt_sound_runs.proofs.Destinations.{IsStored, goes_on, store_there, stored_there}
 
 -- a set of a constant is a mov
@@ -92,6 +93,20 @@ module _ (n : ℕ) (cs : List Value) (i j : Instruction) (alike : AreAlike n cs 
       ∙ ap (λ ss. put_all j.references ss (more n cs w)) (callers_same i.op j.op h os alike.op)
       ∙ (stores_same (caller_stores i.op h os) (caller_there i.op h os) w after).0
 
+  -- they write the same parts
+  writing_same : (v w : Value) → IsWhole n cs v → IsWhole n cs w → (d : Devices) (t : Clock) (h : ℕ)
+      → written_by j.references (more n cs v) (more n cs w) ((effect_of j (more n cs v) d t).stores ++ caller_stores j.op h (map (read (more n cs v)) j.references))
+      ≡ written_by i.references v w ((effect_of i v d t).stores ++ caller_stores i.op h (map (read v) i.references))
+  writing_same v w whole after d t h =
+      let os : List Operand = map (read v) i.references in
+      let own : List Store = (effect_of i v d t).stores in
+      let callers : List Store = caller_stores i.op h os in
+      let all : Each (IsStored i.op) (own ++ callers) = each_join (IsStored i.op) own callers (stored_there i.op i.cmp d t os) (caller_there i.op h os) in
+      ap (λ (e : Effect). written_by j.references (more n cs v) (more n cs w) (e.stores ++ caller_stores j.op h (map (read (more n cs v)) j.references))) (effect_same v whole d t)
+      ∙ ap (λ xs. written_by j.references (more n cs v) (more n cs w) (own ++ caller_stores j.op h xs)) (operands_same v whole)
+      ∙ ap (λ ss. written_by j.references (more n cs v) (more n cs w) (own ++ ss)) (callers_same i.op j.op h os alike.op)
+      ∙ writes_same n cs i.references j.references (own ++ callers) v w alike.references (in_places (own ++ callers) all) whole after
+
   target_same : (v : Value) → IsWhole n cs v → (d : Devices) (t : Clock) → (effect_of i v d t).jumps ≡ true → j.target ≡ i.target
   target_same v whole d t moved = by (is_jump i.op) refl
     where
@@ -111,4 +126,5 @@ module _ (n : ℕ) (cs : List Value) (i j : Instruction) (alike : AreAlike n cs 
     caller = caller_same;
     caller_keeps = λ v w whole after h.
         let os : List Operand = map (read v) i.references in (stores_same (caller_stores i.op h os) (caller_there i.op h os) w after).1;
+    written = writing_same;
   }

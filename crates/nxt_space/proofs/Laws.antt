@@ -20,3 +20,17 @@ pub mod Keeping
 pub mod JoinedBytes
 -- What a dump would show behind a bytecode or a compaction.
 pub mod Obeying
+-- The blocks of a pool, by its rows and by its lists.
+pub mod Counted
+-- Where the last of some blocks ends.
+pub mod Ends
+-- The pool of a heap that holds the variables reads as these.
+pub mod Held
+-- What a pool reads as, where it holds a heap that holds the variables.
+pub mod Reads
+-- A dump of the pool is right for the variables.
+pub mod Right
+-- A heap without lists is filled with the variables of the start.
+pub mod StartFilled
+-- What an accepted file tells of its variables at the start.
+pub mod OfFile

@@ -27,7 +27,7 @@ use Rattle.nxt_operands.proofs.Laws.Refusals.{passed_on}
 use Rattle.nxt_texts.specs.Texts.{StoresBytes}
 use Rattle.nxt_sys.specs.Answers.{with_member, with_members}
 use Rattle.nxt_sys.specs.Fields.{HasCluster, HasField, IsMember, width}
-use Rattle.nxt_sys.proofs.Named.{entry, first_field, member_put, member_shape, member_some}
+use Rattle.nxt_sys.proofs.Laws.Named.{entry, first_field, member_put, member_shape, member_some}
 use Rattle.nxt_sys.proofs.Parts.{members_apart}
 use Rattle.nxt_sys.proofs.StoredTexts.{text_stored}
 

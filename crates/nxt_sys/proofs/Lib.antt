@@ -2,7 +2,7 @@ pub mod Parts
 pub mod Drawn
 pub mod Members
 pub mod Places
-pub mod Named
+pub mod Laws
 pub mod StoredTexts
 pub mod Answered
 pub mod Calling

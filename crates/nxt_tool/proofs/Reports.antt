@@ -1,18 +1,12 @@
 -- Reports, and the answer that is due.
 
--- The text of a run is a report.
-pub mod Texts
+-- What was told goes on to a whole report, and what an image may tell its text may tell.
+pub mod Going
+-- What is due to a script, by how its run ended.
+pub mod Ends
 -- What the top call's statuses say of the due answer.
 pub mod Statuses
--- One piece of a text after another.
-pub mod Pieces
--- The text of bytecodes, and of a row.
-pub mod Runs
--- What a script's next row says of the rows to come.
-pub mod Scripts
--- What ran of a script whose source fails.
-pub mod Cut
--- What is then reported of a program.
+-- What is reported of a program whose script's source fails.
 pub mod CutRuns
 -- What is due to a text that is assembled.
 pub mod Images

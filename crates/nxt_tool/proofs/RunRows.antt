@@ -9,7 +9,8 @@ use Rattle.nxt_model.specs.declared.line.Line.{Line}
 use Rattle.nxt_model.specs.Image.{program_of}
 use Rattle.nxt_model.specs.Program.{Program, State}
 use Rattle.nxt_model.specs.Step.{Stepped, events_of, run, step, stepped, then_step}
-use Rattle.nxt_tool.specs.Running.{HasRun, Held}
+use Rattle.nxt_machine.specs.Machines.{MachineViews}
+use Rattle.nxt_tool.specs.Runs.{HasRun}
 
 run_both : (p : Program) (es fs : List Event) (st : State) → run p (es ++ fs) st ≡ then_step (run p es st) (run p fs)
 run_both p [] fs st = refl
@@ -19,11 +20,11 @@ run_both p (e ∷ es) fs st =
     ap (λ (x : Stepped). stepped x.state (first.lines ++ x.lines)) (run_both p es fs first.state)
     ∙ ap (stepped (run p fs more.state).state) (sym (append_assoc first.lines more.lines (run p fs more.state).lines))
 
-pub has_run_none : (h : Held) (lines : List Line) → HasRun h h [] lines lines
+pub has_run_none : (h : MachineViews) (lines : List Line) → HasRun h h [] lines lines
 has_run_none h lines = record { image = refl; state = refl; lines = sym (append-nil lines) }
 
 -- one part, and then another
-pub has_run_both : (h h' h'' : Held) (es fs : List Event) (a b c : List Line) → HasRun h h' es a b → HasRun h' h'' fs b c → HasRun h h'' (es ++ fs) a c
+pub has_run_both : (h h' h'' : MachineViews) (es fs : List Event) (a b c : List Line) → HasRun h h' es a b → HasRun h' h'' fs b c → HasRun h h'' (es ++ fs) a c
 has_run_both h h' h'' es fs a b c first second =
     let p = program_of h.image in
     let mid = run p es h.state in
@@ -42,17 +43,17 @@ has_run_both h h' h'' es fs a b c first second =
     }
 
 -- events that are still to come
-abbrev pub Leads : Held → List Line → List Event → Held → List Line → List Event → Type 0
-Leads h a es h' b left = (h'' : Held) (c : List Line) → HasRun h' h'' left b c → HasRun h h'' es a c
+abbrev pub Leads : MachineViews → List Line → List Event → MachineViews → List Line → List Event → Type 0
+Leads h a es h' b left = (h'' : MachineViews) (c : List Line) → HasRun h' h'' left b c → HasRun h h'' es a c
 
-pub leads_from : (h : Held) (a : List Line) (es : List Event) → Leads h a es h a es
+pub leads_from : (h : MachineViews) (a : List Line) (es : List Event) → Leads h a es h a es
 leads_from h a es = λ h'' c rest. rest
 
 -- some of them have run
-pub leads_more : (h h' h'' : Held) (a b c : List Line) (es first left : List Event) → Leads h a es h' b (first ++ left) → HasRun h' h'' first b c → Leads h a es h'' c left
+pub leads_more : (h h' h'' : MachineViews) (a b c : List Line) (es first left : List Event) → Leads h a es h' b (first ++ left) → HasRun h' h'' first b c → Leads h a es h'' c left
 leads_more h h' h'' a b c es first left leads ran = λ last d rest. leads last d (has_run_both h' h'' last first left b c d ran rest)
 
-pub leads_all : (h h' : Held) (a b : List Line) (es : List Event) → Leads h a es h' b [] → HasRun h h' es a b
+pub leads_all : (h h' : MachineViews) (a b : List Line) (es : List Event) → Leads h a es h' b [] → HasRun h h' es a b
 leads_all h h' a b es leads = leads h' b (has_run_none h' b)
 
 -- ---- so many bytecodes, and rows

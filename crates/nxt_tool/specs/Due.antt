@@ -2,8 +2,7 @@
 use Rattle.std.specs.Prelude.{◌≡◌, ◌⊎◌, ◌≤◌, ℕ, List, [], length, nat_lt, Bool, true, false, MatchBool, Option, Some, None, IfSome, IsSome}
 use Rattle.std.specs.Io.KnownBytes.{Appends}
 use Rattle.nxt_edge.specs.Edge.{AppendsFront, Rose}
-use Rattle.nxt_model.specs.Image.{Image, program_of}
-use Rattle.nxt_model.specs.Program.{start}
+use Rattle.nxt_model.specs.Image.{Image}
 use Rattle.nxt_model.specs.Report.{IsReport, setting, text_setting}
 use Rattle.nxt_model.specs.TextProgram.{Text}
 use Rattle.nxt_types.specs.Refusals.{IsAccepted}
@@ -17,15 +16,16 @@ use Rattle.nxt_tool.specs.Accepted.{IsAcceptedAs, IsRefused, IsDescribed, refuse
 use Rattle.nxt_tool.specs.Assembling.{IsAssembled, IsGenerated, IsRefusedText}
 use Rattle.nxt_tool.specs.Refused.{told}
 use Rattle.nxt_tool.specs.declared.fault.Refusal.{Refusal}
-use Rattle.nxt_tool.specs.Statuses.{status_of}
-use Rattle.nxt_tool.specs.Running.{held, report}
+use Rattle.nxt_machine.specs.Machines.{MachineViews}
+use Rattle.nxt_report.specs.Running.{Reports, ReportsUpTo}
+use Rattle.nxt_report.specs.Statuses.{IsRunEnd, status_of}
 use Rattle.nxt_script.specs.Rows.{Listing, rows}
 use Rattle.nxt_edge.specs.declared.read_write.ReadAllFault.{ReadAllFault}
 use Rattle.nxt_edge.specs.declared.read_write.ReadAllFault.TheVariants as read
-use Rattle.nxt_tool.specs.declared.writing.Fault.{Fault}
-use Rattle.nxt_tool.specs.declared.writing.Fault.TheVariants as faults
-use Rattle.nxt_tool.specs.declared.status.Status.{Status}
-use Rattle.nxt_tool.specs.declared.status.Status.TheVariants as statuses
+use Rattle.nxt_report.specs.declared.writing.Fault.{Fault}
+use Rattle.nxt_report.specs.declared.writing.Fault.TheVariants as faults
+use Rattle.nxt_report.specs.declared.status.Status.{Status}
+use Rattle.nxt_report.specs.declared.status.Status.TheVariants as statuses
 
 -- a status, the text for the image and the text for the report
 pub record Answer : Type 0 where
@@ -36,18 +36,18 @@ pub record Answer : Type 0 where
 abbrev pub answer : Status → List ℕ → List ℕ → Answer
 answer status image report = record { status = status; image = image; report = report }
 
--- the report of a script's rows on an image
-abbrev pub RunOn : Image → List ℕ → Answer → Type 0
-RunOn image script a =
+-- a report of a script's rows on an image, with an effort
+abbrev pub RunOn : Image → ℕ → List ℕ → Answer → Type 0
+RunOn image effort script a =
     (text : List ℕ)
-    × IsReport (setting image 0) (rows script).rows (rows script).end text
+    × IsReport (setting image effort) (rows script).rows (rows script).end text
     × (a ≡ answer (status_of (rows script).end) [] text)
 
 -- and on what a text spells, by the meaning of its own statements
-abbrev pub RunOnText : Text → List ℕ → Answer → Type 0
-RunOnText t script a =
+abbrev pub RunOnText : Text → ℕ → List ℕ → Answer → Type 0
+RunOnText t effort script a =
     (text : List ℕ)
-    × IsReport (text_setting t 0) (rows script).rows (rows script).end text
+    × IsReport (text_setting t effort) (rows script).rows (rows script).end text
     × (a ≡ answer (status_of (rows script).end) [] text)
 
 -- ended by neither a fault nor want of memory
@@ -82,13 +82,11 @@ fault_status faults.Read = statuses.ReadFault
 fault_status faults.Write = statuses.WriteFault
 fault_status faults.NoMemory = statuses.NoMemory
 
--- the answer that the machine gives to rows and their end
-abbrev pub answer_given : Image → Listing → Answer
-answer_given image l = answer (status_of l.end) [] (report (held image (start (program_of image))) l)
-
--- the answer to a script
-abbrev pub answer_to : Image → List ℕ → Answer
-answer_to image script = answer_given image (rows script)
+-- the run of rows on a machine ended so: with a whole report and its status, or after a fault or want of memory with a front of
+-- a report, as far as it goes
+pub record Ended (m : MachineViews) (l : Listing) (s : Status) (old new : Option (List ℕ)) : Type 0 where
+  pub whole : IsRunEnd s → (s ≡ status_of l.end) × ((text : List ℕ) × Reports m l text × Appends old new text)
+  pub part : (IsRunEnd s → ⊥) → (text : List ℕ) × ReportsUpTo m l text × AppendsFront old new text
 
 -- ---- commands
 
@@ -112,18 +110,18 @@ OfFile bytes go a =
 abbrev pub Within : List ℕ → (List ℕ → Answer → Type 0) → Answer → Type 0
 Within program go a = MatchBool (nat_lt most_program_bytes (length program)) (a ≡ answer statuses.TooLarge [] []) (go program a)
 
--- the answer to a program and a script
-abbrev pub Run : List ℕ → List ℕ → Answer → Type 0
-Run program script a = Within program (λ bytes. OfFile bytes (λ image. RunOn image script)) a
+-- an answer to a program and a script, with an effort
+abbrev pub Run : ℕ → List ℕ → List ℕ → Answer → Type 0
+Run effort program script a = Within program (λ bytes. OfFile bytes (λ image. RunOn image effort script)) a
 
--- the answer to a text and a script: the line of its first broken rule, or the report on what it spells
-abbrev pub OnText : List ℕ → List ℕ → Answer → Type 0
-OnText text script a =
+-- an answer to a text and a script: the line of its first broken rule, or a report on what it spells
+abbrev pub OnText : ℕ → List ℕ → List ℕ → Answer → Type 0
+OnText effort text script a =
     ((r : Refusal) × IsRefusedText text r × (a ≡ refused_answer r))
-    ⊎ ((t : Text) × Spells text t × IsAccepted (assembler_rules.Broken t) × RunOnText t script a)
+    ⊎ ((t : Text) × Spells text t × IsAccepted (assembler_rules.Broken t) × RunOnText t effort script a)
 
-abbrev pub RunText : List ℕ → List ℕ → Answer → Type 0
-RunText program script a = Within program (λ text. OnText text script) a
+abbrev pub RunText : ℕ → List ℕ → List ℕ → Answer → Type 0
+RunText effort program script a = Within program (λ text. OnText effort text script) a
 
 -- the answer to a program that is described: the line of its first broken rule, or what is told of it
 abbrev pub DescribedFile : Description → List ℕ → Answer → Type 0
@@ -152,8 +150,8 @@ Generated n a = (text : List ℕ) × IsGenerated n text × (a ≡ described_answ
 
 abbrev pub DueTo : Option Command → List ℕ → List ℕ → Answer → Type 0
 DueTo None program script a = a ≡ answer statuses.Words [] []
-DueTo (Some RunRxe) program script a = Run program script a
-DueTo (Some RunNbc) program script a = RunText program script a
+DueTo (Some (RunRxe effort)) program script a = Run effort program script a
+DueTo (Some (RunNbc effort)) program script a = RunText effort program script a
 DueTo (Some Assemble) program script a = Assembles program a
 DueTo (Some (Describe d)) program script a = Describes d program a
 DueTo (Some (Generate n)) program script a = Generated n a
@@ -164,7 +162,7 @@ Due words program script a = DueTo (command_of words) program script a
 -- ---- what is used
 
 abbrev pub UsesProgram : List (List ℕ) → Type 0
-UsesProgram words = IsSome (program_word (command_of words))
+UsesProgram words = IsSome (program_word (length words) (command_of words))
 
 -- an image that is neither too large nor refused
 pub record AcceptsImage (program : List ℕ) : Type 0 where
@@ -181,8 +179,8 @@ pub record AcceptsText (program : List ℕ) : Type 0 where
 
 -- behind them the script is read
 abbrev pub ReadsScript : Command → List ℕ → Type 0
-ReadsScript RunRxe program = AcceptsImage program
-ReadsScript RunNbc program = AcceptsText program
+ReadsScript (RunRxe effort) program = AcceptsImage program
+ReadsScript (RunNbc effort) program = AcceptsText program
 ReadsScript Assemble program = ⊥
 ReadsScript (Describe d) program = ⊥
 ReadsScript (Generate n) program = ⊥

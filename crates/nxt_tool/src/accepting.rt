@@ -21,24 +21,27 @@ use nxt_types::refusal::{BrokenRule, Place};
 use nxt_types::{Bytes, NoMemory};
 use std::alloc::Global;
 
-/// The machine of a file's program at its start, or why there is none.
-pub fn accept(alloc: Global, bytes: &[u8]) -> Result<Machine, AcceptFault>
+/// The machine of a file's program at its start, or why there is none. At the end of each turn it lets so many blocks of the pool
+/// settle as `effort` tells.
+pub fn accept(alloc: Global, bytes: &[u8], effort: u8) -> Result<Machine, AcceptFault>
     ensures start { IfOk result (λ m. m.state ≡ start (program_of m.image)) }
+    ensures effort { IfOk result (λ m. m.effort ≡ effort) }
     ensures accepted { MatchResult result (λ m. IsAcceptedAs bytes.now m.image) (HasCause bytes.now) }
 {
     let parts = read_rxe(alloc, bytes)?;
-    machine_of(alloc, parts)
+    machine_of(alloc, parts, effort)
 }
 
 /// The machine of the program of parts at its start, or the first rule that they break.
-pub fn machine_of(alloc: Global, parts: Parts) -> Result<Machine, AcceptFault>
+pub fn machine_of(alloc: Global, parts: Parts, effort: u8) -> Result<Machine, AcceptFault>
     requires counts { HasCounts parts }
     requires fits { Fits parts }
     ensures start { IfOk result (λ m. m.state ≡ start (program_of m.image)) }
+    ensures effort { IfOk result (λ m. m.effort ≡ effort) }
     ensures accepted { MatchResult result (λ m. IsRun parts m.image) (PartsCause parts) }
 {
     let (layout, code) = judge(alloc, parts)?;
-    Ok(Machine::new(alloc, layout, code, 0)?)
+    Ok(Machine::new(alloc, layout, code, effort)?)
 }
 
 /// What is told of a file that breaks no rule, or the first rule that it breaks.

@@ -35,14 +35,15 @@ pub fn assemble_text(alloc: Global, text: &[u8]) -> Result<ImageFile, AcceptFaul
 }
 
 /// The machine of what a text spells at its start, or why there is none.
-pub fn machine_of_text(alloc: Global, text: &[u8]) -> Result<Machine, AcceptFault>
+pub fn machine_of_text(alloc: Global, text: &[u8], effort: u8) -> Result<Machine, AcceptFault>
     requires { length text.now ≤ 16777216 }
     ensures start { IfOk result (λ m. m.state ≡ start (program_of m.image)) }
+    ensures effort { IfOk result (λ m. m.effort ≡ effort) }
     ensures spelled { MatchResult result (λ m. IsTextImage text.now m.image) (HasTextCause text.now) }
 {
     let program = parse(alloc, text)?;
     let made = assemble(alloc, &program)?;
-    machine_of(alloc, made.parts)
+    machine_of(alloc, made.parts, effort)
 }
 
 // The line of an image: the bytes of its file, and those of the pool that its start needs.

@@ -1,10 +1,10 @@
 ghost use Rattle.std.specs.Prelude.{◌≡◌, ◌⊎◌, ◌↔◌, ℕ, ◌≤◌, List, [], Option, Some, None};
 ghost use Rattle.nxt_edge.specs.Edge.{Rose, AreBytes};
-ghost use Rattle.nxt_tool.specs.Due.{Answer, Meets, read_status, fault_status, answer_to, assembled_answer, refused_answer, described_answer, Run, RunText, Describes, Assembles, Generated, Due, UsesProgram, ReadsScript, UsesScript, Accepts, Images, MayReadScript, MayWriteImage, Answers, IsQuiet, NotRefused};
-ghost use Rattle.nxt_model.specs.Image.{program_of};
-ghost use Rattle.nxt_model.specs.Program.{start};
-ghost use Rattle.nxt_tool.specs.Cut.{CutText, CutRun};
-ghost use Rattle.nxt_tool.specs.Running.{held};
+ghost use Rattle.nxt_tool.specs.Due.{Answer, Ended, Meets, read_status, fault_status, assembled_answer, refused_answer, described_answer, Run, RunText, Describes, Assembles, Generated, Due, UsesProgram, ReadsScript, UsesScript, Accepts, Images, MayReadScript, MayWriteImage, Answers, IsQuiet, NotRefused};
+ghost use Rattle.nxt_report.specs.Cut.{CutText};
+ghost use Rattle.nxt_model.specs.Compaction.{CompactionChangesDumpsAlone};
+ghost use Rattle.nxt_script.specs.Rows.{rows as rows_of};
+ghost use Rattle.nxt_tool.specs.Cut.{CutRun};
 ghost use Rattle.nxt_tool.specs.Words.{command_of, texts_of};
 ghost use Rattle.nxt_tool.specs.declared.words.Command.{Command};
 ghost use Rattle.nxt_tool.specs.declared.words.Command.TheVariants.{RunRxe, RunNbc};
@@ -13,12 +13,10 @@ use crate::accepting::{accept, describe, refusal_line};
 use crate::assembling::{ImageFile, assemble_text, machine_of_text};
 use crate::fault::{AcceptFault, Refusal};
 use crate::generating::generate;
-use crate::running::run_script;
-use crate::status::Status;
 use crate::words::{Command, Description, form_of};
-use crate::writing::{Fault, put};
 use nxt_edge::{ReadAllFault, Sink, Source, read_all};
 use nxt_machine::Machine;
+use nxt_report::{Fault, Status, put, run_script};
 use nxt_types::NoMemory;
 use std::alloc::Global;
 
@@ -51,9 +49,8 @@ fn run_program<Q: Source, R: Sink>(
     script: &mut Q,
     report: &mut R,
 ) -> Status
-    requires start { machine.state ≡ start (program_of machine.image) }
-    ensures told { (s : List ℕ) → Q.left script.old ≡ Some s → Meets result (answer_to machine.image s) (R.written report.old) (R.written report.new) }
-    ensures cut { (s : List ℕ) → Q.left script.old ≡ Some s → result ≡ Status.ReadFault → CutText (held machine.image (start (program_of machine.image))) s (Q.left script.old) (Q.left script.new) (R.written report.old) (R.written report.new) }
+    ensures told { (s : List ℕ) → Q.left script.old ≡ Some s → Ended machine (rows_of s) result (R.written report.old) (R.written report.new) }
+    ensures cut { (s : List ℕ) → Q.left script.old ≡ Some s → result ≡ Status.ReadFault → CutText machine s (Q.left script.old) (Q.left script.new) (R.written report.old) (R.written report.new) }
     ensures read { result ≡ Status.ReadFault → Rose (Q.faults script.old) (Q.faults script.new) }
     ensures write { result ≡ Status.WriteFault → Rose (R.faults report.old) (R.faults report.new) }
     ensures script { Q.faults script.old ≤ Q.faults script.new }
@@ -86,15 +83,16 @@ fn refuse<R: Sink>(alloc: Global, refusal: Refusal, report: &mut R) -> Status
 // Runs a script over an image.
 fn run<P: Source, Q: Source, R: Sink>(
     alloc: Global,
+    effort: u8,
     program: &mut P,
     script: &mut Q,
     report: &mut R,
 ) -> Status
-    ensures told { (b s : List ℕ) → AreBytes b → P.left program.old ≡ Some b → (ReadsScript RunRxe b → Q.left script.old ≡ Some s) → (a : Answer) × Run b s a × Meets result a (R.written report.old) (R.written report.new) }
-    ensures cut { (b s : List ℕ) → P.left program.old ≡ Some b → ReadsScript RunRxe b → Q.left script.old ≡ Some s → result ≡ Status.ReadFault → CutRun RunRxe b s (Q.left script.old) (Q.left script.new) (R.written report.old) (R.written report.new) }
-    ensures read { result ≡ Status.ReadFault → Rose (P.faults program.old) (P.faults program.new) ⊎ (Accepts RunRxe (P.left program.old) × Rose (Q.faults script.old) (Q.faults script.new)) }
+    ensures told { (b s : List ℕ) → AreBytes b → P.left program.old ≡ Some b → (ReadsScript (RunRxe effort) b → Q.left script.old ≡ Some s) → (a : Answer) × Run effort b s a × Meets result a (R.written report.old) (R.written report.new) }
+    ensures cut { (b s : List ℕ) → P.left program.old ≡ Some b → ReadsScript (RunRxe effort) b → Q.left script.old ≡ Some s → result ≡ Status.ReadFault → CutRun (RunRxe effort) b s (Q.left script.old) (Q.left script.new) (R.written report.old) (R.written report.new) }
+    ensures read { result ≡ Status.ReadFault → Rose (P.faults program.old) (P.faults program.new) ⊎ (Accepts (RunRxe effort) (P.left program.old) × Rose (Q.faults script.old) (Q.faults script.new)) }
     ensures write { result ≡ Status.WriteFault → Rose (R.faults report.old) (R.faults report.new) }
-    ensures unread { (Accepts RunRxe (P.left program.old) → ⊥) → script.new ≡ script.old }
+    ensures unread { (Accepts (RunRxe effort) (P.left program.old) → ⊥) → script.new ≡ script.old }
     ensures words { result ≡ Status.Words → ⊥ }
     ensures later { (P.faults program.old ≤ P.faults program.new) × (Q.faults script.old ≤ Q.faults script.new) × (R.faults report.old ≤ R.faults report.new) }
 {
@@ -102,7 +100,7 @@ fn run<P: Source, Q: Source, R: Sink>(
         Ok(bytes) => bytes,
         Err(fault) => return of_read(fault),
     };
-    match accept(alloc, bytes.as_slice()) {
+    match accept(alloc, bytes.as_slice(), effort) {
         Ok(machine) => run_program(alloc, machine, script, report),
         Err(AcceptFault::NoMemory) => Status::NoMemory,
         Err(AcceptFault::Refused(refusal)) => refuse(alloc, refusal, report),
@@ -112,15 +110,16 @@ fn run<P: Source, Q: Source, R: Sink>(
 // Runs a script over a text.
 fn run_text<P: Source, Q: Source, R: Sink>(
     alloc: Global,
+    effort: u8,
     program: &mut P,
     script: &mut Q,
     report: &mut R,
 ) -> Status
-    ensures told { (b s : List ℕ) → AreBytes b → P.left program.old ≡ Some b → (ReadsScript RunNbc b → Q.left script.old ≡ Some s) → (a : Answer) × RunText b s a × Meets result a (R.written report.old) (R.written report.new) }
-    ensures cut { (b s : List ℕ) → P.left program.old ≡ Some b → ReadsScript RunNbc b → Q.left script.old ≡ Some s → result ≡ Status.ReadFault → CutRun RunNbc b s (Q.left script.old) (Q.left script.new) (R.written report.old) (R.written report.new) }
-    ensures read { result ≡ Status.ReadFault → Rose (P.faults program.old) (P.faults program.new) ⊎ (Accepts RunNbc (P.left program.old) × Rose (Q.faults script.old) (Q.faults script.new)) }
+    ensures told { (b s : List ℕ) → AreBytes b → P.left program.old ≡ Some b → (ReadsScript (RunNbc effort) b → Q.left script.old ≡ Some s) → (a : Answer) × RunText effort b s a × Meets result a (R.written report.old) (R.written report.new) }
+    ensures cut { (b s : List ℕ) → P.left program.old ≡ Some b → ReadsScript (RunNbc effort) b → Q.left script.old ≡ Some s → result ≡ Status.ReadFault → CutRun (RunNbc effort) b s (Q.left script.old) (Q.left script.new) (R.written report.old) (R.written report.new) }
+    ensures read { result ≡ Status.ReadFault → Rose (P.faults program.old) (P.faults program.new) ⊎ (Accepts (RunNbc effort) (P.left program.old) × Rose (Q.faults script.old) (Q.faults script.new)) }
     ensures write { result ≡ Status.WriteFault → Rose (R.faults report.old) (R.faults report.new) }
-    ensures unread { (Accepts RunNbc (P.left program.old) → ⊥) → script.new ≡ script.old }
+    ensures unread { (Accepts (RunNbc effort) (P.left program.old) → ⊥) → script.new ≡ script.old }
     ensures words { result ≡ Status.Words → ⊥ }
     ensures later { (P.faults program.old ≤ P.faults program.new) × (Q.faults script.old ≤ Q.faults script.new) × (R.faults report.old ≤ R.faults report.new) }
 {
@@ -128,7 +127,7 @@ fn run_text<P: Source, Q: Source, R: Sink>(
         Ok(bytes) => bytes,
         Err(fault) => return of_read(fault),
     };
-    match machine_of_text(alloc, bytes.as_slice()) {
+    match machine_of_text(alloc, bytes.as_slice(), effort) {
         Ok(machine) => run_program(alloc, machine, script, report),
         Err(AcceptFault::NoMemory) => Status::NoMemory,
         Err(AcceptFault::Refused(refusal)) => refuse(alloc, refusal, report),
@@ -246,8 +245,8 @@ fn answer<P: Source, Q: Source, I: Sink, R: Sink>(
     ensures later { (P.faults program.old ≤ P.faults program.new) × (Q.faults script.old ≤ Q.faults script.new) × (I.faults image.old ≤ I.faults image.new) × (R.faults report.old ≤ R.faults report.new) }
 {
     match form_of(words) {
-        Some(Command::RunRxe) => run(alloc, program, script, report),
-        Some(Command::RunNbc) => run_text(alloc, program, script, report),
+        Some(Command::RunRxe(effort)) => run(alloc, effort, program, script, report),
+        Some(Command::RunNbc(effort)) => run_text(alloc, effort, program, script, report),
         Some(Command::Assemble) => assemble_file(alloc, program, image, report),
         Some(Command::Describe(description)) => {
             describe_file(alloc, description, program, report)
@@ -261,6 +260,7 @@ fn answer<P: Source, Q: Source, I: Sink, R: Sink>(
 ///
 /// `run rxe FILE SCRIPT` runs the rows of the script on the image that the program holds, and writes the report.
 /// `run nbc FILE SCRIPT` does the same on the text that the program holds, or writes the first rule that the text breaks.
+/// With `--effort K` behind `run`, K from 0 to 255, up to K blocks of the pool settle at the end of each turn.
 /// `asm FILE IMAGE` writes the image of the text that the program holds to `image`, and then the bytes of its file and of the
 /// pool at the start, or the first rule that the text breaks.
 /// `check FILE` writes whether the program's image is accepted, and with what footprint, or the first rule that it breaks.
@@ -282,6 +282,10 @@ pub fn nxt<P: Source, Q: Source, I: Sink, R: Sink>(
     ensures told { (b s : List ℕ) → AreBytes b → (UsesProgram (texts_of words.now) → P.left program.old ≡ Some b)
         → (UsesScript (texts_of words.now) b → Q.left script.old ≡ Some s)
         → (a : Answer) × Due (texts_of words.now) b s a × Answers result a (I.written image.old) (I.written image.new) (R.written report.old) (R.written report.new) }
+
+    // Compaction between any two bytecodes changes nothing but dumps: of events that differ in compactions alone, and with any
+    // two efforts, the reports that are due differ in dumps alone, and the program stops alike.
+    ensures compaction { CompactionChangesDumpsAlone }
 
     // Where no fault came, the due status is given, or there was no memory.
     ensures complete { (b s : List ℕ) → AreBytes b → (UsesProgram (texts_of words.now) → P.left program.old ≡ Some b)

@@ -1,9 +1,9 @@
 // A generated program, and what is told of its run.
 
-ghost use Rattle.std.specs.Prelude.{◌≡◌, ◌≤◌, length, flat_map, replicate, MatchResult, IfOk, OnOk};
+ghost use Rattle.std.specs.Prelude.{◌≡◌, ◌≤◌, All, length, flat_map, replicate, MatchResult, IfOk, OnOk};
 ghost use Rattle.nxt_model.specs.Step.{events_of};
 ghost use Rattle.nxt_tool.specs.Assembling.{HasTextCause, IsGenerated, IsTold};
-ghost use Rattle.nxt_tool.specs.Running.{HasRun, held_in};
+ghost use Rattle.nxt_tool.specs.Runs.{HasRun, IsPlain};
 
 use crate::assembling::machine_of_text;
 use crate::fault::AcceptFault;
@@ -27,30 +27,32 @@ pub fn generate(alloc: Global, number: u32) -> Result<Bytes, NoMemory>
     }
 }
 
-// What is told under a number of the run of rows on a text, or the first rule that the text breaks.
+// What is told under a number of the run of rows without dumps on a text, or the first rule that the text breaks.
 fn tell_run(
     alloc: Global,
     text: &[u8],
     rows: &[ScriptRow],
     number: u32,
 ) -> Result<Bytes, AcceptFault>
-    requires { length text.now ≤ 16777216 }
+    requires few { length text.now ≤ 16777216 }
+    requires plain { All IsPlain rows.now }
     ensures { MatchResult result (IsTold text.now rows.now number) (HasTextCause text.now) }
 {
-    let mut machine = machine_of_text(alloc, text)?;
+    let mut machine = machine_of_text(alloc, text, 0)?;
     let mut lines = Lines::new(alloc);
     run_rows(alloc, &mut machine, rows, &mut lines)?;
     Ok(told(alloc, number, lines.as_slice())?)
 }
 
-// Runs rows, and adds their lines.
+// Runs rows without dumps, and adds their lines.
 fn run_rows(
     alloc: Global,
     machine: &mut Machine,
     rows: &[ScriptRow],
     lines: &mut Lines,
 ) -> Result<(), NoMemory>
-    ensures { OnOk result (HasRun (held_in machine.old) (held_in machine.new) (flat_map events_of rows.now) lines.old.lines lines.new.lines) }
+    requires { All IsPlain rows.now }
+    ensures { OnOk result (HasRun machine.old machine.new (flat_map events_of rows.now) lines.old.lines lines.new.lines) }
 {
     for row in rows {
         run_row(alloc, machine, row, lines)?;
@@ -58,14 +60,15 @@ fn run_rows(
     Ok(())
 }
 
-// Runs a row, and adds its lines.
+// Runs a row that is no dump, and adds its lines.
 fn run_row(
     alloc: Global,
     machine: &mut Machine,
     row: &ScriptRow,
     lines: &mut Lines,
 ) -> Result<(), NoMemory>
-    ensures { OnOk result (HasRun (held_in machine.old) (held_in machine.new) (events_of row.now) lines.old.lines lines.new.lines) }
+    requires { IsPlain row.now }
+    ensures { OnOk result (HasRun machine.old machine.new (events_of row.now) lines.old.lines lines.new.lines) }
 {
     match row {
         ScriptRow::Run(count) => run_bytecodes(alloc, machine, *count, lines),
@@ -80,7 +83,7 @@ fn run_bytecodes(
     count: u32,
     lines: &mut Lines,
 ) -> Result<(), NoMemory>
-    ensures { OnOk result (HasRun (held_in machine.old) (held_in machine.new) (replicate count Event.Bytecode) lines.old.lines lines.new.lines) }
+    ensures { OnOk result (HasRun machine.old machine.new (replicate count Event.Bytecode) lines.old.lines lines.new.lines) }
 {
     let mut left = count;
     while left > 0 {

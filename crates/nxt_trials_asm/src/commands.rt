@@ -34,11 +34,7 @@ pub(crate) fn assembled(
     image: &[u32],
     report: &[u32],
 ) -> Result<Ended, Fail> {
-    let words = vec![in alloc;
-        b"asm".to_vec(alloc)?,
-        b"a".to_vec(alloc)?,
-        b"b".to_vec(alloc)?,
-    ]?;
+    let words = words_of(alloc, &[b"asm", b"a", b"b"])?;
     let mut program = source_of(alloc, bytes_of(alloc, text)?);
     let mut script = source_of(alloc, Vec::new(alloc));
     let mut image = MemSink::new(alloc, 16, image.to_vec(alloc)?);
@@ -61,14 +57,33 @@ pub(crate) fn ran(
     script: &[u8],
     failing: &[u32],
 ) -> Result<Ended, Fail> {
-    let words = vec![in alloc;
-        b"run".to_vec(alloc)?,
-        kind.to_vec(alloc)?,
-        b"a".to_vec(alloc)?,
-        b"b".to_vec(alloc)?,
-    ]?;
+    let words = words_of(alloc, &[b"run", kind, b"a", b"b"])?;
+    let script = MemSource::new(script.to_vec(alloc)?, 4096, failing.to_vec(alloc)?);
+    ran_by(alloc, words, program, script)
+}
+
+/// The same with an effort, where nothing fails.
+pub(crate) fn ran_with_effort(
+    alloc: Global,
+    effort: &[u8],
+    kind: &[u8],
+    program: Vec<u8>,
+    script: &[u8],
+) -> Result<Ended, Fail> {
+    let words = words_of(alloc, &[b"run", b"--effort", effort, kind, b"a", b"b"])?;
+    let script = source_of(alloc, script.to_vec(alloc)?);
+    ran_by(alloc, words, program, script)
+}
+
+// Runs a script on a program by these words.
+fn ran_by(
+    alloc: Global,
+    words: Vec<Vec<u8>>,
+    program: Vec<u8>,
+    script: MemSource,
+) -> Result<Ended, Fail> {
     let mut program = source_of(alloc, program);
-    let mut script = MemSource::new(script.to_vec(alloc)?, 4096, failing.to_vec(alloc)?);
+    let mut script = script;
     let mut image = MemSink::new(alloc, 16, Vec::new(alloc));
     let mut report = MemSink::new(alloc, 16, Vec::new(alloc));
     done(
@@ -83,7 +98,7 @@ pub(crate) fn ran(
 
 /// Makes a program from a number and runs it, where the first read of any source fails.
 pub(crate) fn generated(alloc: Global, number: &[u8]) -> Result<Ended, Fail> {
-    let words = vec![in alloc; b"gen".to_vec(alloc)?, number.to_vec(alloc)?]?;
+    let words = words_of(alloc, &[b"gen", number])?;
     let failing = [0].to_vec(alloc)?;
     let mut program = MemSource::new(Vec::new(alloc), 4096, failing);
     let failing = [0].to_vec(alloc)?;
@@ -98,6 +113,15 @@ pub(crate) fn generated(alloc: Global, number: &[u8]) -> Result<Ended, Fail> {
         &mut image,
         &mut report,
     )
+}
+
+// The words of a command.
+fn words_of(alloc: Global, texts: &[&[u8]]) -> Result<Vec<Vec<u8>>, Fail> {
+    let mut words = Vec::new(alloc);
+    for text in texts {
+        words.push(text.to_vec(alloc)?)?;
+    }
+    Ok(words)
 }
 
 // A source that never fails.

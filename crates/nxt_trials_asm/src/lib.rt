@@ -5,6 +5,8 @@
 #[cfg(test)]
 mod commands;
 #[cfg(test)]
+mod dumps;
+#[cfg(test)]
 mod generated;
 #[cfg(test)]
 mod images;

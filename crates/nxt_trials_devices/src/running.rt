@@ -41,7 +41,7 @@ impl Outside {
 
 fn machine_of(alloc: Global, image: &Image) -> Result<Machine, Fail> {
     let file = file_of(alloc, image)?;
-    match accept(alloc, file.as_slice()) {
+    match accept(alloc, file.as_slice(), 0) {
         Ok(machine) => Ok(machine),
         Err(_) => Err("the file is refused".into()),
     }

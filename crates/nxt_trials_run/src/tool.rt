@@ -31,6 +31,9 @@ const MOTOR: Image<'static> = Image {
 
 const MOTOR_REPORT: &[u8] = b"motor,0,0,75,0,0,0,0\nstop,finished\nend,1\n";
 
+const MOTOR_LISTING: &[u8] =
+    b"header,3,3,3,3,0,0,0,0,0,1,10\ntoc,0,ubyte,0,0\ntoc,1,sbyte,0,1\ntoc,2,ubyte,0,2\nclump,0,0,0\ncode,0,setout,0,2,1,0,2\ncode,7,finclump,0,-1\n";
+
 /// Jumps to itself.
 const ENDLESS_JUMP: Image<'static> = Image {
     clumps: &[0],

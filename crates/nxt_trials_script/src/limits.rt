@@ -59,6 +59,36 @@ fn many_rows(rt: HostRuntime) -> Result<(), Fail> {
     Ok(())
 }
 
+/// The most dumps that a script may have.
+const MOST_DUMPS: usize = 256;
+
+/// So many dumps, and a row behind them.
+fn dumps(alloc: Global, count: usize) -> Result<Vec<u8>, Fail> {
+    let mut script = Vec::new(alloc);
+    for _ in 0..count {
+        script.extend_from_slice(b"dump\n")?;
+    }
+    script.extend_from_slice(b"run,1\n")?;
+    Ok(script)
+}
+
+#[test]
+fn many_dumps(rt: HostRuntime) -> Result<(), Fail> {
+    let alloc = rt.alloc();
+    for (count, end) in [
+        (MOST_DUMPS, "dump\nrun 1\nend\nend\n"),
+        (
+            MOST_DUMPS + 1,
+            "dump\nrow 257 passes a limit\nrow 257 passes a limit\n",
+        ),
+    ] {
+        let script = dumps(alloc, count)?;
+        let told = read(alloc, script.as_slice(), WHOLE, &[])?;
+        assert!(rt; told.ends_with(end), "{count} dumps");
+    }
+    Ok(())
+}
+
 /// A row of a telegram of so many bytes.
 fn telegram(alloc: Global, bytes: usize) -> Result<Vec<u8>, Fail> {
     let mut row = b"telegram,".to_vec(alloc)?;

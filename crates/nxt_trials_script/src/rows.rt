@@ -50,7 +50,7 @@ static ROWS: [Case<'static>; 30] = [
     ),
     (b"run,1\n\n\nfoo,1\n", "run 1\nrow 2 is bad\nrow 2 is bad\n"),
     (b"run,1\n \nrun,2\n", "run 1\nrow 2 is bad\nrow 2 is bad\n"),
-    (b"dump\n", "row 1 is bad\nrow 1 is bad\n"),
+    (b"dump\n", "dump\nend\nend\n"),
     (b"Run,1\n", "row 1 is bad\nrow 1 is bad\n"),
     (b"telegram\n", "row 1 is bad\nrow 1 is bad\n"),
     (b"run,1\"\n", "row 1 is bad\nrow 1 is bad\n"),
@@ -58,7 +58,7 @@ static ROWS: [Case<'static>; 30] = [
 ];
 
 // Each of these rows is bad.
-static BAD: [&[u8]; 36] = [
+static BAD: [&[u8]; 38] = [
     b"run",
     b"run,",
     b"run,1,",
@@ -95,6 +95,8 @@ static BAD: [&[u8]; 36] = [
     b"telegram,0",
     b"telegram,0g",
     b"compact,65536",
+    b"dump,",
+    b"dump,1",
 ];
 
 #[test]

@@ -34,3 +34,7 @@ pub mod FilledElements
 pub mod Numbers
 -- A list of numbers that keeps its row and gets other bytes.
 pub mod RowKept
+-- Rows that are taken for lists, and bytes that are stored in a region.
+pub mod Opened
+-- What is filled so far, and what is still to be filled.
+pub mod Steps

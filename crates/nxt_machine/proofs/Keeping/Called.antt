@@ -21,7 +21,7 @@ use Rattle.nxt_space.specs.Variables.{SpaceViews, AreSound, shape_of, value_of}
 use Rattle.nxt_operands.proofs.Laws.Named.{named_some}
 use Rattle.nxt_sys.specs.Fields.{IsMember, member_name}
 use Rattle.nxt_sys.specs.Keeping.{LeavesAfter, LeavesMessage}
-use Rattle.nxt_sys.proofs.Named.{entry}
+use Rattle.nxt_sys.proofs.Laws.Named.{entry}
 use Rattle.nxt_machine.specs.Inside.Keeping.{StaysBy, StatementStays}
 use Rattle.nxt_machine.proofs.Keeping.Parts.{part_at, part_named, part_there, first_stays, stays_more, still_stays}
 use Rattle.nxt_machine.proofs.Meanings.Acts.{syscall_refers}

@@ -6,6 +6,7 @@ use Rattle.nxt_types.specs.Arithmetic.{word}
 use Rattle.nxt_types.specs.Names.{named}
 use Rattle.nxt_types.specs.Opcodes.{arity}
 use Rattle.nxt_types.specs.OperandRules.{AreFit, is_plain, is_value}
+use Rattle.nxt_types.specs.Shapes.{is_number}
 use Rattle.nxt_types.specs.Statements.{Statement, statement_of, args_of}
 use Rattle.nxt_types.specs.declared.instr.Instr.{Instr}
 use Rattle.nxt_types.specs.declared.instr.Op.{Op}
@@ -16,8 +17,10 @@ use Rattle.nxt_model.specs.Means.Effects.{Operand, Effect, effect, gives, device
 use Rattle.nxt_model.specs.SystemCalls.{Clock}
 use Rattle.nxt_model.specs.Values.{Num}
 use Rattle.nxt_model.specs.Variables.{Reference, Plain, part_of, references, read}
-use Rattle.nxt_space.specs.Variables.{Variables}
+use Rattle.nxt_space.specs.Variables.{Variables, shape_by, shape_of}
 use Rattle.nxt_operands.proofs.Laws.Named.{IsNamed, IsPart, asked_parts, is_part, operand_shape, fit_by, statement_by}
+use Rattle.nxt_ops.specs.Ready.{is_a_number}
+use Rattle.nxt_machine.specs.Memory.{works_on_numbers}
 use Rattle.nxt_machine.specs.Numbers.{number_at, ports_at, set_motors_by}
 use Rattle.nxt_machine.specs.Inside.Statements.{operands_at}
 use Rattle.nxt_machine.proofs.Meanings.OfClumps.{word_named}
@@ -84,6 +87,12 @@ pub ports_fit : (s : Variables) (i : Instr) (words : List ℕ) → i.op ≡ ops.
 ports_fit s i words e f =
     is_part is_plain s i.a refl
     (asked_parts (is_value (operand_shape s i.a)) (is_plain (operand_shape s i.a)) true ((fit_by s i words ops.Setout e f).fit 0 (omega arith))).1
+
+-- and that of one on numbers alone is a number
+pub port_number : (s : Variables) (i : Instr) (words : List ℕ) → i.op ≡ ops.Setout → IsNamed s i.a → works_on_numbers i.op (operands_at s (statement_of i words)) ≡ true → is_number (shape_of s i.a) ≡ true
+port_number s i words e m works =
+    let all = sym (ap (λ op. works_on_numbers op (operands_at s (statement_by op i words))) e) ∙ works in
+    ap (λ o. is_number (shape_by o)) m.by_entry ∙ sym (ap (λ o. is_a_number (read s.values (part_of o))) m.by_word) ∙ (and_parts _ _ all).0
 
 module _ (s : Variables) (i : Instr) (words : List ℕ) (f : AreFit s.shapes (statement_of i words)) where
   pub getin_property : i.op ≡ ops.Getin → i.c < 256

@@ -1,19 +1,20 @@
 -- What a statement on motors or sensors means.
-use Rattle.std.proofs.Common.{◌≡◌, ℕ, zero, suc, ◌-◌, ◌<◌, ◌≤◌, List, [], ◌∷◌, length, drop, map, min, Bool, true, false, refl, sym, ap, ◌∙◌, arith, set-set, ◌++◌}
+use Rattle.std.proofs.Common.{◌≡◌, ℕ, zero, suc, ◌-◌, ◌<◌, ◌≤◌, List, [], ◌∷◌, length, drop, map, min, Bool, true, false, refl, sym, ap, ap₂, ◌∙◌, arith, set-set, ◌++◌}
 use Rattle.std.specs.List.{list_any}
-use Rattle.std.specs.Prelude.{ℤ, pos, ◌==◌, ◌||◌, ◌/◌, if◌then◌else◌, zip, filter, nat_lt, slice_index_or, slice_set}
+use Rattle.std.specs.Prelude.{ℤ, pos, ◌==◌, ◌||◌, ◌/◌, if◌then◌else◌, zip, filter, nat_lt, nat_abs, slice_index_or, slice_set}
 use Rattle.std.proofs.lemmas.Bool.Decides.{nat_tests}
 use Rattle.std.proofs.lemmas.Simd.{map-map}
-use Rattle.std.proofs.lemmas.List.{append-nil, get_or-set_same, get_or_past, set-get_or}
+use Rattle.std.proofs.lemmas.List.{append-nil, length-set, get_or-set_same, get_or_past, set-get_or}
 use Rattle.nxt_types.specs.declared.kind.Cmp.{Cmp}
 use Rattle.nxt_types.specs.declared.instr.Op.TheVariants as ops
-use Rattle.nxt_types.specs.Arithmetic.{word}
+use Rattle.nxt_types.specs.declared.kind.Kind.TheVariants.{Ubyte}
+use Rattle.nxt_types.specs.Arithmetic.{word, cut}
 use Rattle.nxt_types.specs.Names.{named}
 use Rattle.nxt_types.specs.Shapes.{Shape, is_number}
 use Rattle.nxt_types.specs.Opcodes.{pairs_of}
 use Rattle.nxt_types.specs.declared.opcodes.Class.TheVariants.{Immediate as immediate, Read}
 use Rattle.nxt_types.specs.Statements.{statement}
-use Rattle.nxt_model.specs.Devices.{Devices, Change, changed, each_port, and_then, motor_at, with_motor, set_property, property, set_in, get_in, get_out, sensor_writable, motor_writable, with_property, as_property, sensor_kinds, motor_kinds}
+use Rattle.nxt_model.specs.Devices.{Devices, Change, changed, each_port, and_then, motor_at, with_motor, set_property, property, set_in, get_in, get_out, sensor_writable, motor_writable, with_property, as_property, sensor_kinds, motor_kinds, update_flags, updated, motor_line}
 use Rattle.nxt_model.specs.Means.Effects.{Operand, Given, device_change}
 use Rattle.nxt_model.specs.Means.Ports.{named_ports, set_pairs, set_motor, set_output, commit_if_flagged}
 use Rattle.nxt_model.specs.Values.{Value, number, word_of, bytes_of, elements}
@@ -22,7 +23,7 @@ use Rattle.nxt_space.specs.Variables.{Variables, shape_by, value_by}
 use Rattle.nxt_operands.specs.Numbers.{numbers_in}
 use Rattle.nxt_operands.specs.Operands.{given}
 use Rattle.nxt_operands.proofs.Laws.Named.{IsNamed}
-use Rattle.nxt_machine.specs.Numbers.{number_at, with_pairs, ports_at, is_among, set_motor_by, set_motors_by}
+use Rattle.nxt_machine.specs.Numbers.{number_at, with_pairs, flags_set, ports_at, is_among, set_motor_by, set_motors_by}
 
 -- ---- the pairs
 
@@ -110,12 +111,93 @@ motor_kept port d = ap (λ ms. record d { motors = ms }) (set-get_or d.motors po
 pub motor_twice : (port : ℕ) (m n : List ℤ) (d : Devices) → with_motor port m (with_motor port n d) ≡ with_motor port m d
 motor_twice port m n d = ap (λ ms. record d { motors = ms }) (set-set d.motors port n m)
 
+-- ---- update flags
+
+-- the update flags, where words that are a property and name a number in turn are stored
+abbrev pub flags_by : Variables → List ℕ → ℕ → ℕ
+flags_by s [] flags = flags
+flags_by s (p ∷ []) flags = flags
+flags_by s (p ∷ v ∷ more) flags = flags_by s more (flags_set flags p (number_at s v))
+
+flags_stored : (p : ℕ) (z : ℤ) (m : List ℤ) → 0 < length m → update_flags (set_property p z m) ≡ flags_set (update_flags m) p z
+flags_stored p z [] some = let no : ⊥ = omega (arith, some) in absurd no
+flags_stored zero z (x ∷ xs) some = refl
+flags_stored (suc p) z (x ∷ xs) some =
+    let other : (suc p == 0) ≡ false = grind arith in
+    by (motor_writable (suc p)) ∙ sym (ap (λ b. if b then nat_abs (cut Ubyte z) else update_flags (x ∷ xs)) other)
+  where
+    by : (b : Bool) → update_flags (if b then slice_set (x ∷ xs) (suc p) (as_property motor_kinds (suc p) z) else x ∷ xs) ≡ update_flags (x ∷ xs)
+    by true = refl
+    by false = refl
+
+property_length : (p : ℕ) (z : ℤ) (m : List ℤ) → length (set_property p z m) ≡ length m
+property_length p z m = by (motor_writable p)
+  where
+    by : (b : Bool) → length (if b then slice_set m p (as_property motor_kinds p z) else m) ≡ length m
+    by true = length-set m p (as_property motor_kinds p z)
+    by false = refl
+
+-- they are those of the motor in which the words are stored
+pub flags_of_pairs : (s : Variables) (ps : List ℕ) (m : List ℤ) → 0 < length m → update_flags (with_pairs s ps m) ≡ flags_by s ps (update_flags m)
+flags_of_pairs s [] m some = refl
+flags_of_pairs s (p ∷ []) m some = refl
+flags_of_pairs s (p ∷ v ∷ more) m some =
+    let z = number_at s v in
+    let same = property_length p z m in
+    flags_of_pairs s more (set_property p z m) (omega (arith, some, same)) ∙ ap (flags_by s more) (flags_stored p z m some)
+
+flags_more : (s : Variables) (xs : List ℕ) (k flags : ℕ) → suc k < length xs →
+    flags_by s (drop (suc (suc k)) xs) (flags_set flags (slice_index_or xs k 0) (number_at s (slice_index_or xs (suc k) 0))) ≡ flags_by s (drop k xs) flags
+flags_more s [] k flags h = let no : ⊥ = omega (arith, h) in absurd no
+flags_more s (x ∷ []) zero flags h = let no : ⊥ = omega (arith, h) in absurd no
+flags_more s (x ∷ y ∷ xs) zero flags h = refl
+flags_more s (x ∷ xs) (suc k) flags h = flags_more s xs k flags (omega (arith, h))
+
+-- a pair stands at k and behind it
+pub flags_next : (s : Variables) (xs : List ℕ) (k j l flags : ℕ) → j ≡ suc k → l ≡ suc (suc k) → j < length xs →
+    flags_by s (drop l xs) (flags_set flags (slice_index_or xs k 0) (number_at s (slice_index_or xs j 0))) ≡ flags_by s (drop k xs) flags
+flags_next s xs k j l flags e f h =
+    ap₂ (λ a b. flags_by s (drop b xs) (flags_set flags (slice_index_or xs k 0) (number_at s (slice_index_or xs a 0)))) e f
+    ∙ flags_more s xs k flags (omega (arith, e, h))
+
+pub flags_done : (s : Variables) (xs : List ℕ) (k flags : ℕ) → length xs ≤ suc k → flags_by s (drop k xs) flags ≡ flags
+flags_done s [] zero flags h = refl
+flags_done s [] (suc k) flags h = refl
+flags_done s (x ∷ []) zero flags h = refl
+flags_done s (x ∷ y ∷ xs) zero flags h = let no : ⊥ = omega (arith, h) in absurd no
+flags_done s (x ∷ xs) (suc k) flags h = flags_done s xs k flags (omega (arith, h))
+
+silent_by : (port : ℕ) (d : Devices) (b c : Bool) → c ≡ true →
+    (if b
+    then changed d []
+    else (if c then changed (with_motor port (updated (motor_at port d)) d) (motor_line port (motor_at port d) ∷ []) else changed d [])).lines
+    ≡ [] → b ≡ true
+silent_by port d true c there none = refl
+silent_by port d false true there none = let no : ⊥ = cc in absurd no
+silent_by port d false false there none = let no : ⊥ = cc in absurd no
+
+-- a motor that tells no line has no flag
+pub silent_flags : (s : Variables) (ps : List ℕ) (port : ℕ) (d : Devices) → port < 3 → length d.motors ≡ 3 → (set_motor_by s ps port d).lines ≡ [] →
+    update_flags (with_pairs s ps (motor_at port d)) ≡ 0
+silent_flags s ps port d low motors none =
+    let m = with_pairs s ps (motor_at port d) in
+    let e = with_motor port m d in
+    let there : port < length d.motors = omega (arith, low, motors) in
+    let test : nat_lt port 3 ≡ true = grind (arith, nat_tests, low) in
+    let no_flag : (update_flags (motor_at port e) == 0) ≡ true = silent_by port e (update_flags (motor_at port e) == 0) (nat_lt port 3) test none in
+    let zero_flags : update_flags (motor_at port e) ≡ 0 = grind (arith, nat_tests, no_flag) in
+    sym (ap update_flags (motor_again port m d there)) ∙ zero_flags
+
 -- ---- the ports of a list
 
 -- the words of its numbers are those of its elements
 pub ports_listed : (t : Shape) (v : Value) (zs : List ℤ) → is_number t ≡ false → zs ≡ numbers_in v → map word zs ≡ named_ports (Given t v)
 ports_listed t v zs other e =
     ap (map word) e ∙ map-map word number (elements v) ∙ sym (ap (λ b. if b then word_of v ∷ [] else bytes_of v) other)
+
+-- the word of a number is its only port
+pub port_named : (t : Shape) (v : Value) → is_number t ≡ true → word (number v) ∷ [] ≡ named_ports (Given t v)
+port_named t v is = sym (ap (λ b. if b then word_of v ∷ [] else bytes_of v) is)
 
 -- a port is among them where it is one of its words
 pub among_words : (zs : List ℤ) (port : ℕ) → list_any (λ z. word z == port) zs ≡ is_among (map word zs) port

@@ -8,7 +8,7 @@ use Rattle.nxt_facts.proofs.Pairs.{all_pairs}
 use Rattle.nxt_heap.specs.Dumps.{IsFilled, HoldHeap}
 use Rattle.nxt_heap.specs.Lists.{Lists, ByteList, list_at, bytes_at, bytes_of, stride_at, stride_of, IsAlive}
 use Rattle.nxt_facts.specs.Pairs.{EachPair}
-use Rattle.nxt_space.proofs.Pool.Reads.{list_in, lists_in}
+use Rattle.nxt_space.proofs.Laws.Reads.{list_in, lists_in}
 use Rattle.nxt_values.proofs.Laws.Without.{Differ}
 
 -- ---- pairs

@@ -15,7 +15,7 @@ use Rattle.nxt_tool.specs.Assembling.{IsRefusedText}
 use Rattle.nxt_tool.specs.Due.{Answer, Generated, Meets, described_answer}
 use Rattle.nxt_tool.specs.declared.fault.Refusal.{Refusal}
 use Rattle.nxt_tool.specs.declared.fault.Refusal.TheVariants.{Sections, Layout, Code, Text, Assembler}
-use Rattle.nxt_tool.specs.declared.status.Status.TheVariants as status
+use Rattle.nxt_report.specs.declared.status.Status.TheVariants as status
 use Rattle.nxt_tool.proofs.Reports.Statuses.{nothing_yet}
 
 kept_by : (n : ℕ) (t u : program.Text) → Spells (generated_text n) t → IsAccepted (Broken t) → Spells (generated_text n) u → IsAccepted (Broken u)

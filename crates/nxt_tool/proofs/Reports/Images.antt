@@ -18,7 +18,7 @@ use Rattle.nxt_limits.proofs.Laws.Decided.{Judged, image_or_refusal}
 use Rattle.nxt_tool.specs.Assembling.{assembled_line}
 use Rattle.nxt_tool.specs.Due.{Answer, Answers, AssembledText, Assembles, answer, assembled_answer, read_status, refused_answer}
 use Rattle.nxt_tool.specs.declared.fault.Refusal.TheVariants as refusals
-use Rattle.nxt_tool.specs.declared.status.Status.TheVariants as status
+use Rattle.nxt_report.specs.declared.status.Status.TheVariants as status
 use Rattle.nxt_tool.proofs.Reports.Statuses.{nothing_yet, too_large}
 
 -- ---- some answer is due

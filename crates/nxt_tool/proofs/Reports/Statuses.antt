@@ -9,7 +9,7 @@ use Rattle.nxt_edge.specs.declared.read_write.ReadAllFault.{ReadAllFault}
 use Rattle.nxt_edge.specs.declared.read_write.ReadAllFault.TheVariants.{Failed, TooLarge, NoMemory}
 use Rattle.nxt_edge.proofs.Laws.{Appends-none}
 use Rattle.nxt_model.specs.Image.{Image}
-use Rattle.nxt_tool.specs.Due.{Answer, answer, Meets, RunOn, answer_to, read_status, fault_status, refused_answer, described_answer, OfFile, Run, DescribedFile, Describes, DueTo, Due, Answers}
+use Rattle.nxt_tool.specs.Due.{Answer, answer, Meets, RunOn, read_status, refused_answer, described_answer, OfFile, Run, DescribedFile, Describes, DueTo, Due, Answers}
 use Rattle.nxt_tool.specs.declared.words.Command.{Command}
 use Rattle.nxt_tool.specs.declared.words.Description.{Description}
 use Rattle.nxt_tool.specs.declared.words.Description.TheVariants.{Footprint, Listing}
@@ -31,18 +31,12 @@ use Rattle.nxt_code.specs.declared.fault.CodeFault.{CodeFault}
 use Rattle.nxt_code.specs.CodeRules as code_rules
 use Rattle.nxt_code.proofs.Laws.Decided.{code_or_refusal}
 use Rattle.nxt_types.specs.Shapes.{Members}
-use Rattle.nxt_tool.specs.declared.writing.Fault.{Fault}
-use Rattle.nxt_tool.specs.declared.writing.Fault.TheVariants.{Read, Write, NoMemory as NoRoom}
 use Rattle.nxt_list.specs.Listing.{listing}
-use Rattle.nxt_script.specs.Rows.{rows}
-use Rattle.nxt_tool.proofs.Reports.Texts.{is_report}
-use Rattle.nxt_tool.specs.Statuses.{IsRunEnd}
-use Rattle.nxt_tool.specs.Running.{held, report}
-use Rattle.nxt_model.specs.Program.{start}
-use Rattle.nxt_model.specs.Image.{program_of}
+use Rattle.nxt_tool.proofs.Reports.Ends.{some_on}
+use Rattle.nxt_tool.proofs.Reports.Going.{image_goes_on}
 use Rattle.std.specs.Prelude.{MatchBool}
-use Rattle.nxt_tool.specs.declared.status.Status.{Status}
-use Rattle.nxt_tool.specs.declared.status.Status.TheVariants as status
+use Rattle.nxt_report.specs.declared.status.Status.{Status}
+use Rattle.nxt_report.specs.declared.status.Status.TheVariants as status
 
 pub nothing_yet : (w : Option (List ℕ)) (text : List ℕ) → AppendsFront w w text
 nothing_yet w text = ([], (text, refl), Appends-none w)
@@ -86,27 +80,6 @@ right_status status.ReadFault d r r' m a b = absurd (a refl)
 right_status status.WriteFault d r r' m a b = absurd (b refl)
 right_status status.NoMemory d r r' m a b = inr refl
 
--- what the machine gives is due
-pub run_on : (image : Image) (s : List ℕ) → RunOn image s (answer_to image s)
-run_on image s = (report (held image (start (program_of image))) (rows s), is_report image s, refl)
-
--- a run that failed
-pub run_failed : (fault : Fault) (d : Answer) (w w' : Option (List ℕ)) → AppendsFront w w' d.report → Meets (fault_status fault) d w w'
-run_failed Read d w w' h = h
-run_failed Write d w w' h = h
-run_failed NoRoom d w w' h = h
-
--- a run that came to its end
-pub run_ended : (s : Status) (d : Answer) (w w' : Option (List ℕ)) → IsRunEnd s → s ≡ d.status → Appends w w' d.report → Meets s d w w'
-run_ended status.Done d w w' end is h = (is, h)
-run_ended status.ScriptRefused d w w' end is h = (is, h)
-run_ended status.TooLarge d w w' end is h = (is, h)
-run_ended status.Refused d w w' end is h = absurd end
-run_ended status.Words d w w' end is h = absurd end
-run_ended status.ReadFault d w w' end is h = absurd end
-run_ended status.WriteFault d w w' end is h = absurd end
-run_ended status.NoMemory d w w' end is h = absurd end
-
 -- ---- programs
 
 pub within_by : (long : Bool) (a : Answer) (go : Type 0) → long ≡ false → go → MatchBool long (a ≡ answer status.TooLarge [] []) go
@@ -116,75 +89,77 @@ within_by false a go e is = is
 pub short_program : (program : List ℕ) → length program ≤ 262144 → nat_lt 262144 (length program) ≡ false
 short_program program h = grind (arith, nat_tests)
 
--- the line of a refused program is due
-pub refused_run : (program script : List ℕ) (r : Refusal) → length program ≤ 262144 → IsRefused program r → Run program script (refused_answer r)
-refused_run program script r few refused =
-    within_by (nat_lt 262144 (length program)) (refused_answer r) _ (short_program program few) (inl (r, refused, refl))
-
--- what is due to a script on an accepted program is due
-pub accepted_run : (program script : List ℕ) (image : Image) (a : Answer) → length program ≤ 262144 → IsAcceptedAs program image → RunOn image script a → Run program script a
-accepted_run program script image a few accepted on =
-    within_by (nat_lt 262144 (length program)) a _ (short_program program few) (inr (image, accepted, on))
-
-abbrev OnProgram : List ℕ → List ℕ → Type 0
-OnProgram program script = (a : Answer) × OfFile program (λ image. RunOn image script) a
-
-on_accepted : (program script : List ℕ) (p : Parts) (ss : Members) → IsFile program p → BreaksNone p ss → OnProgram program script
-on_accepted program script p ss file sound =
-    let start = some_start p ss sound.layout sound.shapes in
-    let image = image_of p ss start.0 in
-    let run : IsRun p image = record { shapes = ss; sound = sound; vars = start.0; starts = start.1; image_is = refl } in
-    (answer_to image script, inr (image, (p, file, run), run_on image script))
-
-by_code : (program script : List ℕ) (p : Parts) (ss : Members) → IsFile program p → IsAccepted (layout_rules.Broken p) → HasShapes p ss →
-    ((f : CodeFault) × IsRefusal (code_rules.Broken (code_in p ss)) code_rules.rank f) ⊎ IsAccepted (code_rules.Broken (code_in p ss)) → OnProgram program script
-by_code program script p ss file layout shapes (inl found) =
-    (refused_answer (refusals.Code found.0), inl (refusals.Code found.0, (p, file, (layout, ss, shapes, found.1)), refl))
-by_code program script p ss file layout shapes (inr code) =
-    on_accepted program script p ss file (record { layout = layout; shapes = shapes; code = code })
-
-by_layout : (program script : List ℕ) (p : Parts) → IsFile program p → ((f : LayoutFault) × IsRefusal (layout_rules.Broken p) layout_rules.rank f) ⊎ (IsAccepted (layout_rules.Broken p) × (ss : Members) × HasShapes p ss) → OnProgram program script
-by_layout program script p file (inl found) = (refused_answer (refusals.Layout found.0), inl (refusals.Layout found.0, (p, file, found.1), refl))
-by_layout program script p file (inr found) = by_code program script p found.1 file found.0 found.2 (code_or_refusal (code_in p found.1))
-
-by_file : (program script : List ℕ) → ((f : RxeFault) × IsRefusal (Broken program) rank f) ⊎ ((p : Parts) × IsFile program p) → OnProgram program script
-by_file program script (inl found) = (refused_answer (refusals.Sections found.0), inl (refusals.Sections found.0, found.1, refl))
-by_file program script (inr found) =
-    by_layout program script found.0 found.1 (layout_or_refusal found.0)
-
-by_length : (long : Bool) (program script : List ℕ) → AreBytes program → (a : Answer) × MatchBool long (a ≡ answer status.TooLarge [] []) (OfFile program (λ image. RunOn image script) a)
-by_length true program script bytes = (answer status.TooLarge [] [], refl)
-by_length false program script bytes = by_file program script (file_or_refusal program bytes)
-
--- some answer is due to every program and script
-pub some_run : (program script : List ℕ) → AreBytes program → (a : Answer) × Run program script a
-some_run program script bytes = by_length (nat_lt 262144 (length program)) program script bytes
-
 pub too_large : (long : Bool) (go : Type 0) → long ≡ true → MatchBool long (answer status.TooLarge [] [] ≡ answer status.TooLarge [] []) go
 too_large true go e = refl
 too_large false go e = absurd (let f : ⊥ = cc in f)
 
--- nothing is written where a program isn't read to its end
-pub unread_run : (fault : ReadAllFault) (program script : List ℕ) (w : Option (List ℕ)) → AreBytes program → (fault ≡ TooLarge → nat_lt 262144 (length program) ≡ true) →
-    (a : Answer) × Run program script a × Meets (read_status fault) a w w
-unread_run Failed program script w bytes long = let due = some_run program script bytes in (due.0, due.1, nothing_yet w due.0.report)
-unread_run NoMemory program script w bytes long = let due = some_run program script bytes in (due.0, due.1, nothing_yet w due.0.report)
-unread_run TooLarge program script w bytes long = (answer status.TooLarge [] [], too_large (nat_lt 262144 (length program)) _ (long refl), (refl, Appends-none w))
+module _ (effort : ℕ) where
+  -- the line of a refused program is due
+  pub refused_run : (program script : List ℕ) (r : Refusal) → length program ≤ 262144 → IsRefused program r → Run effort program script (refused_answer r)
+  refused_run program script r few refused =
+      within_by (nat_lt 262144 (length program)) (refused_answer r) _ (short_program program few) (inl (r, refused, refl))
 
-pub no_memory_run : (program script : List ℕ) (w : Option (List ℕ)) → AreBytes program → (a : Answer) × Run program script a × Meets status.NoMemory a w w
-no_memory_run program script w bytes = let due = some_run program script bytes in (due.0, due.1, nothing_yet w due.0.report)
+  -- what is due to a script on an accepted program is due
+  pub accepted_run : (program script : List ℕ) (image : Image) (a : Answer) → length program ≤ 262144 → IsAcceptedAs program image → RunOn image effort script a → Run effort program script a
+  accepted_run program script image a few accepted on =
+      within_by (nat_lt 262144 (length program)) a _ (short_program program few) (inr (image, accepted, on))
 
--- no image text is due to a run
-no_image_of : (program script : List ℕ) (a : Answer) → OfFile program (λ image. RunOn image script) a → a.image ≡ []
-no_image_of program script a (inl refused) = ap (λ (x : Answer). x.image) refused.2
-no_image_of program script a (inr accepted) = ap (λ (x : Answer). x.image) accepted.2.2
+  abbrev OnProgram : List ℕ → List ℕ → Type 0
+  OnProgram program script = (a : Answer) × OfFile program (λ image. RunOn image effort script) a
 
-no_image_by : (long : Bool) (program script : List ℕ) (a : Answer) → MatchBool long (a ≡ answer status.TooLarge [] []) (OfFile program (λ image. RunOn image script) a) → a.image ≡ []
-no_image_by true program script a due = ap (λ (x : Answer). x.image) due
-no_image_by false program script a due = no_image_of program script a due
+  on_accepted : (program script : List ℕ) (p : Parts) (ss : Members) → IsFile program p → BreaksNone p ss → OnProgram program script
+  on_accepted program script p ss file sound =
+      let start = some_start p ss sound.layout sound.shapes in
+      let image = image_of p ss start.0 in
+      let run : IsRun p image = record { shapes = ss; sound = sound; vars = start.0; starts = start.1; image_is = refl } in
+      let some = some_on image effort (image_goes_on program image (p, file, run) effort) script in
+      (some.0, inr (image, (p, file, run), some.1))
 
-pub no_image : (program script : List ℕ) (a : Answer) → Run program script a → a.image ≡ []
-no_image program script a due = no_image_by (nat_lt 262144 (length program)) program script a due
+  by_code : (program script : List ℕ) (p : Parts) (ss : Members) → IsFile program p → IsAccepted (layout_rules.Broken p) → HasShapes p ss →
+      ((f : CodeFault) × IsRefusal (code_rules.Broken (code_in p ss)) code_rules.rank f) ⊎ IsAccepted (code_rules.Broken (code_in p ss)) → OnProgram program script
+  by_code program script p ss file layout shapes (inl found) =
+      (refused_answer (refusals.Code found.0), inl (refusals.Code found.0, (p, file, (layout, ss, shapes, found.1)), refl))
+  by_code program script p ss file layout shapes (inr code) =
+      on_accepted program script p ss file (record { layout = layout; shapes = shapes; code = code })
+
+  by_layout : (program script : List ℕ) (p : Parts) → IsFile program p → ((f : LayoutFault) × IsRefusal (layout_rules.Broken p) layout_rules.rank f) ⊎ (IsAccepted (layout_rules.Broken p) × (ss : Members) × HasShapes p ss) → OnProgram program script
+  by_layout program script p file (inl found) = (refused_answer (refusals.Layout found.0), inl (refusals.Layout found.0, (p, file, found.1), refl))
+  by_layout program script p file (inr found) = by_code program script p found.1 file found.0 found.2 (code_or_refusal (code_in p found.1))
+
+  by_file : (program script : List ℕ) → ((f : RxeFault) × IsRefusal (Broken program) rank f) ⊎ ((p : Parts) × IsFile program p) → OnProgram program script
+  by_file program script (inl found) = (refused_answer (refusals.Sections found.0), inl (refusals.Sections found.0, found.1, refl))
+  by_file program script (inr found) =
+      by_layout program script found.0 found.1 (layout_or_refusal found.0)
+
+  by_length : (long : Bool) (program script : List ℕ) → AreBytes program → (a : Answer) × MatchBool long (a ≡ answer status.TooLarge [] []) (OfFile program (λ image. RunOn image effort script) a)
+  by_length true program script bytes = (answer status.TooLarge [] [], refl)
+  by_length false program script bytes = by_file program script (file_or_refusal program bytes)
+
+  -- some answer is due to every program and script
+  pub some_run : (program script : List ℕ) → AreBytes program → (a : Answer) × Run effort program script a
+  some_run program script bytes = by_length (nat_lt 262144 (length program)) program script bytes
+
+  -- nothing is written where a program isn't read to its end
+  pub unread_run : (fault : ReadAllFault) (program script : List ℕ) (w : Option (List ℕ)) → AreBytes program → (fault ≡ TooLarge → nat_lt 262144 (length program) ≡ true) →
+      (a : Answer) × Run effort program script a × Meets (read_status fault) a w w
+  unread_run Failed program script w bytes long = let due = some_run program script bytes in (due.0, due.1, nothing_yet w due.0.report)
+  unread_run NoMemory program script w bytes long = let due = some_run program script bytes in (due.0, due.1, nothing_yet w due.0.report)
+  unread_run TooLarge program script w bytes long = (answer status.TooLarge [] [], too_large (nat_lt 262144 (length program)) _ (long refl), (refl, Appends-none w))
+
+  pub no_memory_run : (program script : List ℕ) (w : Option (List ℕ)) → AreBytes program → (a : Answer) × Run effort program script a × Meets status.NoMemory a w w
+  no_memory_run program script w bytes = let due = some_run program script bytes in (due.0, due.1, nothing_yet w due.0.report)
+
+  -- no image text is due to a run
+  no_image_of : (program script : List ℕ) (a : Answer) → OfFile program (λ image. RunOn image effort script) a → a.image ≡ []
+  no_image_of program script a (inl refused) = ap (λ (x : Answer). x.image) refused.2
+  no_image_of program script a (inr accepted) = ap (λ (x : Answer). x.image) accepted.2.2
+
+  no_image_by : (long : Bool) (program script : List ℕ) (a : Answer) → MatchBool long (a ≡ answer status.TooLarge [] []) (OfFile program (λ image. RunOn image effort script) a) → a.image ≡ []
+  no_image_by true program script a due = ap (λ (x : Answer). x.image) due
+  no_image_by false program script a due = no_image_of program script a due
+
+  pub no_image : (program script : List ℕ) (a : Answer) → Run effort program script a → a.image ≡ []
+  no_image program script a due = no_image_by (nat_lt 262144 (length program)) program script a due
 
 -- ---- descriptions
 

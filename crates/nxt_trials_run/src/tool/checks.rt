@@ -1,6 +1,6 @@
 // Files that are checked.
 
-use super::{ENDLESS_JUMP, MOTOR, NONE, WHOLE, command, words_of};
+use super::{ENDLESS_JUMP, MOTOR, MOTOR_LISTING, NONE, WHOLE, command, words_of};
 use nxt_images::{ARRAY, EMPTY, Image, UBYTE, file_of};
 use nxt_tool::Status;
 use std::alloc::Global;
@@ -85,11 +85,7 @@ fn checked_files(rt: HostRuntime) -> Result<(), Fail> {
 }
 
 static LISTINGS: [Case<'static>; 3] = [
-    (
-        &MOTOR,
-        Status::Done,
-        b"header,3,3,3,3,0,0,0,0,0,1,10\ntoc,0,ubyte,0,0\ntoc,1,sbyte,0,1\ntoc,2,ubyte,0,2\nclump,0,0,0\ncode,0,setout,0,2,1,0,2\ncode,7,finclump,0,-1\n",
-    ),
+    (&MOTOR, Status::Done, MOTOR_LISTING),
     (
         &LIST,
         Status::Done,

@@ -38,7 +38,7 @@ const COUNTER: Image<'static> = Image {
 /// A name, a program, a script, how the command ends, and its report.
 type Case<'a> = (&'a str, &'a Image<'a>, &'a [u8], Status, &'a str);
 
-static CASES: [Case<'static>; 9] = [
+static CASES: [Case<'static>; 10] = [
     (
         "full_mailbox",
         &ENDLESS_JUMP,
@@ -52,6 +52,13 @@ static CASES: [Case<'static>; 9] = [
         b"telegram,000400640700002000000000\ntelegram,00040064070000200000000000\ntelegram,0055\ntelegram,8055\ntelegram,000b\ntelegram,0001\ntelegram,0013000001\n",
         Status::Done,
         "motor,0,7,100,32,0,0,0\nreply,020400\nmotor,0,7,100,32,0,0,0\nreply,020400\nreply,0255be\nreply,020b00401f\nstop,telegram\nreply,020100\nreply,0213ec\nend,7\n",
+    ),
+    (
+        "hostile_telegrams",
+        &ENDLESS_JUMP,
+        b"telegram,\ntelegram,00\ntelegram,02ff\ntelegram,0000\ntelegram,00006100\ntelegram,0003c7000100\ntelegram,0004\ntelegram,000403000000000000000000\ntelegram,0004009b0000000000000000\ntelegram,00090000\ntelegram,0009000131\ntelegram,000914020100\ntelegram,0013140001\n",
+        Status::Done,
+        "reply,0200bf\nreply,0200bd\nreply,0203c0\nreply,0204bf\nreply,0204f0\nreply,0204c0\nreply,0209ed\nreply,0209ff\nreply,0209ee\nreply,0213ee\nend,13\n",
     ),
     (
         "a tone and silence",
@@ -96,11 +103,11 @@ static CASES: [Case<'static>; 9] = [
         "end,5\n",
     ),
     (
-        "a dump is no row yet",
+        "a dump shows the pool",
         &MOTOR,
         b"run,2\ndump\nrun,2\n",
-        Status::ScriptRefused,
-        "motor,0,0,75,0,0,0,0\nstop,finished\nscript,2\n",
+        Status::Done,
+        "motor,0,0,75,0,0,0,0\nstop,finished\ndump,4,1,0,16\nbytes,0,004b020004000a000100000000000000\nend,3\n",
     ),
 ];
 

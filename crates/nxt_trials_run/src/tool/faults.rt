@@ -1,69 +1,206 @@
 // A call of each object fails in turn.
 
-use super::{Failing, MOTOR, MOTOR_REPORT, NONE, WHOLE, command, run_words};
-use nxt_images::file_of;
+use super::{
+    FINISH, Failing, MOTOR, MOTOR_LISTING, MOTOR_REPORT, NONE, WHOLE, command, run_words, words_of,
+};
+use nxt_images::{EMPTY, Image, file_of};
 use nxt_tool::Status;
 use std::alloc::Global;
 use std::process::Abort;
 use std::test::Fail;
 
-// The call with that number of an object fails; `made` says whether the command makes it.
-fn fails(
+/// The bytes that a call moves at most.
+const CHUNK: usize = 16;
+
+/// A command with what it reads, what it writes where nothing fails, and how many calls of each object it makes then.
+#[derive(Clone, Copy)]
+struct Row<'a> {
+    words: &'a [&'a [u8]],
+    program: &'a [u8],
+    script: &'a [u8],
+    image: &'a [u8],
+    report: &'a [u8],
+    program_calls: u32,
+    script_calls: u32,
+    image_calls: u32,
+    report_calls: u32,
+}
+
+// How a command ends where one call would fail; `made` says whether the command makes that call.
+fn due(made: bool, fault: Status) -> Status {
+    if made { fault } else { Status::Done }
+}
+
+// A command some of whose calls are to fail ends with a status.
+fn ends(
     rt: &impl Abort,
     alloc: Global,
+    row: &Row,
     failing: Failing,
-    made: bool,
-    fault: Status,
+    status: Status,
 ) -> Result<(), Fail> {
-    let words = run_words(alloc)?;
-    let program = file_of(alloc, &MOTOR)?;
+    let words = words_of(alloc, row.words)?;
     let ended = command(
         alloc,
         words.as_slice(),
-        program.as_slice(),
-        b"run,100",
-        16,
+        row.program,
+        row.script,
+        CHUNK,
         failing,
     )?;
-    if made {
-        assert_eq!(rt; ended.status, fault);
-        assert!(rt; MOTOR_REPORT.starts_with(ended.report.as_slice()));
+    let image = ended.image.as_slice();
+    let report = ended.report.as_slice();
+    assert_eq!(rt; ended.status, status);
+    if status == Status::Done {
+        assert_eq!(rt; image, row.image);
+        assert_eq!(rt; report, row.report);
     } else {
-        assert_eq!(rt; ended.status, Status::Done);
-        assert_eq!(rt; ended.report.as_slice(), MOTOR_REPORT);
+        assert!(rt; row.image.starts_with(image));
+        assert!(rt; row.report.starts_with(report));
+        assert!(rt; image.len() == row.image.len() || report.is_empty());
     }
     Ok(())
 }
 
-// The image has 78 bytes: five calls and the end. The script has 7: one call and the end. The report's three lines have
-// 41 bytes together: three calls.
-#[test]
-fn each_call_fails_in_turn(rt: HostRuntime) -> Result<(), Fail> {
-    let alloc = rt.alloc();
+fn each_fails(rt: &impl Abort, alloc: Global, row: &Row) -> Result<(), Fail> {
     for k in 0..41 {
         let call = [k];
         let program = Failing {
             program: &call,
             ..NONE
         };
-        fails(&rt, alloc, program, k < 6, Status::ReadFault)?;
+        let status = due(k < row.program_calls, Status::ReadFault);
+        ends(rt, alloc, row, program, status)?;
         let script = Failing {
             script: &call,
             ..NONE
         };
-        fails(&rt, alloc, script, k < 2, Status::ReadFault)?;
+        let status = due(k < row.script_calls, Status::ReadFault);
+        ends(rt, alloc, row, script, status)?;
         let image = Failing {
             image: &call,
             ..NONE
         };
-        fails(&rt, alloc, image, false, Status::WriteFault)?;
+        let status = due(k < row.image_calls, Status::WriteFault);
+        ends(rt, alloc, row, image, status)?;
         let report = Failing {
             report: &call,
             ..NONE
         };
-        fails(&rt, alloc, report, k < 3, Status::WriteFault)?;
+        let status = due(k < row.report_calls, Status::WriteFault);
+        ends(rt, alloc, row, report, status)?;
     }
     Ok(())
+}
+
+/// Ends.
+const SMALLEST: Image<'static> = Image {
+    clumps: &[0],
+    code: &[FINISH],
+    ..EMPTY
+};
+
+const SMALLEST_TEXT: &[u8] = b"thread main\nendt\n";
+
+const NOTHING: Row<'static> = Row {
+    words: &[],
+    program: b"",
+    script: b"",
+    image: b"",
+    report: b"",
+    program_calls: 0,
+    script_calls: 0,
+    image_calls: 0,
+    report_calls: 0,
+};
+
+// Of the motor image, which has 78 bytes.
+const RUN_RXE: Row<'static> = Row {
+    words: &[b"run", b"rxe", b"a", b"b"],
+    script: b"run,100",
+    report: MOTOR_REPORT,
+    program_calls: 6,
+    script_calls: 2,
+    report_calls: 3,
+    ..NOTHING
+};
+
+const RUN_NBC: Row<'static> = Row {
+    words: &[b"run", b"nbc", b"a", b"b"],
+    program: SMALLEST_TEXT,
+    script: b"run,100",
+    report: b"stop,finished\nend,1\n",
+    program_calls: 3,
+    script_calls: 2,
+    report_calls: 2,
+    ..NOTHING
+};
+
+// The image has 48 bytes.
+const ASM: Row<'static> = Row {
+    words: &[b"asm", b"a", b"b"],
+    program: SMALLEST_TEXT,
+    report: b"assembled,48,12\n",
+    program_calls: 3,
+    image_calls: 3,
+    report_calls: 1,
+    ..NOTHING
+};
+
+// Of the motor image.
+const CHECK: Row<'static> = Row {
+    words: &[b"check", b"a"],
+    report: b"accepted,16\n",
+    program_calls: 6,
+    report_calls: 1,
+    ..NOTHING
+};
+
+// Of the motor image, whose listing has 135 bytes.
+const LIST: Row<'static> = Row {
+    words: &[b"list", b"a"],
+    report: MOTOR_LISTING,
+    program_calls: 6,
+    report_calls: 9,
+    ..NOTHING
+};
+
+const GENERATED: Row<'static> = Row {
+    words: &[b"gen", b"7"],
+    report: b"gen,7\nmotors,400\nsum,4299\nstop,finished\n",
+    report_calls: 3,
+    ..NOTHING
+};
+
+// Each call of each command fails in turn. A file that is read takes a call for each 16 bytes and one for its end; what is written
+// takes one for each 16 bytes.
+#[test]
+fn each_call_fails_in_turn(rt: HostRuntime) -> Result<(), Fail> {
+    let alloc = rt.alloc();
+    let motor = file_of(alloc, &MOTOR)?;
+    let smallest = file_of(alloc, &SMALLEST)?;
+    let run_rxe = Row {
+        program: motor.as_slice(),
+        ..RUN_RXE
+    };
+    let asm = Row {
+        image: smallest.as_slice(),
+        ..ASM
+    };
+    let check = Row {
+        program: motor.as_slice(),
+        ..CHECK
+    };
+    let list = Row {
+        program: motor.as_slice(),
+        ..LIST
+    };
+    each_fails(&rt, alloc, &run_rxe)?;
+    each_fails(&rt, alloc, &RUN_NBC)?;
+    each_fails(&rt, alloc, &asm)?;
+    each_fails(&rt, alloc, &check)?;
+    each_fails(&rt, alloc, &list)?;
+    each_fails(&rt, alloc, &GENERATED)
 }
 
 // A script of 20,000 ticks and more, whose call `failing` fails: its first rows are told, and a bad row well before the fault too.

@@ -193,18 +193,25 @@ fn program_too_large(rt: HostRuntime) -> Result<(), Fail> {
     Ok(())
 }
 
-fn refused(rt: &impl Abort, alloc: Global, program: &[u8], line: &[u8]) -> Result<(), Fail> {
-    let words = run_words(alloc)?;
-    let ended = command(alloc, words.as_slice(), program, b"run,1", WHOLE, NONE)?;
+fn refused(
+    rt: &impl Abort,
+    alloc: Global,
+    words: &[Vec<u8>],
+    program: &[u8],
+    line: &[u8],
+) -> Result<(), Fail> {
+    let ended = command(alloc, words, program, b"run,1", WHOLE, NONE)?;
     assert_eq!(rt; ended.status, Status::Refused);
     assert_eq!(rt; ended.report.as_slice(), line);
     Ok(())
 }
 
-// The motor image cut to each length names the section that passes the end.
+// The motor image cut to each length names the section that passes the end, where it is checked and where it is run.
 #[test]
 fn cut_images(rt: HostRuntime) -> Result<(), Fail> {
     let alloc = rt.alloc();
+    let check = words_of(alloc, &[b"check", b"a"])?;
+    let run = run_words(alloc)?;
     let file = file_of(alloc, &MOTOR)?;
     for bytes in 0..78 {
         let short = format!(in alloc; "refused,1,{bytes}\n")?;
@@ -216,7 +223,8 @@ fn cut_images(rt: HostRuntime) -> Result<(), Fail> {
             _ => b"refused,4,5\n",
         };
         let cut = file.as_slice().get(..bytes).ok_or("too short")?;
-        refused(&rt, alloc, cut, line)?;
+        refused(&rt, alloc, check.as_slice(), cut, line)?;
+        refused(&rt, alloc, run.as_slice(), cut, line)?;
     }
     Ok(())
 }
@@ -263,15 +271,17 @@ static BROKEN: [(&Image<'static>, usize, u8, &[u8]); 3] = [
 #[test]
 fn other_files(rt: HostRuntime) -> Result<(), Fail> {
     let alloc = rt.alloc();
+    let run = run_words(alloc)?;
     for (image, line) in &REFUSED {
-        refused(&rt, alloc, file_of(alloc, image)?.as_slice(), line)?;
+        let file = file_of(alloc, image)?;
+        refused(&rt, alloc, run.as_slice(), file.as_slice(), line)?;
     }
     for (image, at, byte, line) in &BROKEN {
         let mut file = file_of(alloc, image)?.into_vec();
         if let Some(place) = file.get_mut(*at) {
             *place = *byte;
         }
-        refused(&rt, alloc, file.as_slice(), line)?;
+        refused(&rt, alloc, run.as_slice(), file.as_slice(), line)?;
     }
     Ok(())
 }

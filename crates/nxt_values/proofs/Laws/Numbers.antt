@@ -15,8 +15,8 @@ use Rattle.nxt_values.specs.Fills.{Fills, first_of}
 use Rattle.nxt_values.specs.declared.reading.Region.{Region}
 use Rattle.nxt_model.specs.Means.Text.{number_in}
 use Rattle.nxt_values.proofs.Fill.Bytes.{number_stored, number_size, length-put, put_same}
-use Rattle.nxt_values.proofs.Fill.Opened.{footprint_put}
-use Rattle.nxt_values.proofs.Fill.Steps.{number_filled}
+use Rattle.nxt_values.proofs.Laws.Opened.{footprint_put}
+use Rattle.nxt_values.proofs.Laws.Steps.{number_filled}
 
 -- they fill its place with it
 pub number_fills : (table : List TocEntry) (h g : Lists) (k : Kind) (i : ℕ) (region : Region) (base at : ℕ) (zs : List ℤ) → IsRegion h region → at ≡ leaf_place table i base → at + leaf_size k ≤ length (bytes_in h region) → g ≡ with_bytes h region (put (bytes_of_number k (first_of zs)) at (bytes_in h region)) → Fills table h g (Number k) i region base zs (drop 1 zs)

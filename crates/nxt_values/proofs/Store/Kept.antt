@@ -21,7 +21,7 @@ use Rattle.nxt_values.proofs.Laws.HeldRows.{alive_within}
 use Rattle.nxt_values.proofs.Laws.Needs.{taken}
 use Rattle.nxt_values.proofs.Laws.Without.{region_kept}
 use Rattle.nxt_values.proofs.Fill.Growing.{or_right, region_bytes}
-use Rattle.nxt_values.proofs.Fill.Opened.{opens_again}
+use Rattle.nxt_values.proofs.Laws.Opened.{opens_again}
 
 -- ---- shapes without lists
 

@@ -31,9 +31,9 @@ loop-rest-preserved c =
     let told = c.in_ok-append.ensures.ok ∙ ap (λ bs. bs ++ now) c.new-line.ensures in
     record {
       lines =
-          ap (λ ls. ls ++ bytes_lines (length later) (c.loop-rest.at + length now) later) (c.in_ok-push.ensures.ok ∙ ap (λ bs. c.loop-rest.out.lines ++ Bytes c.loop-rest.at bs ∷ []) told)
-          ∙ append_assoc c.loop-rest.out.lines (Bytes c.loop-rest.at now ∷ []) (bytes_lines (length later) (c.loop-rest.at + length now) later)
-          ∙ ap (λ ls. c.loop-rest.out.lines ++ ls) (sym line)
+          ap (λ ls. ls ++ bytes_lines (length later) (c.loop-rest.at + length now) later) (c.in_ok-push.ensures.items ∙ ap (λ bs. c.loop-rest.lines.items ++ Bytes c.loop-rest.at bs ∷ []) told)
+          ∙ append_assoc c.loop-rest.lines.items (Bytes c.loop-rest.at now ∷ []) (bytes_lines (length later) (c.loop-rest.at + length now) later)
+          ∙ ap (λ ls. c.loop-rest.lines.items ++ ls) (sym line)
           ∙ is.lines;
       place = let whole = is.place in omega (arith, whole, c.split_at.ensures.back_len, c.split_at.ensures.front_len);
     }
@@ -42,6 +42,6 @@ pub returns : goal.returns
 returns c =
     let rest = c.loop-rest.rest.now in
     let none : length rest ≡ 0 = grind (arith, nat_tests, c.is_empty.ensures, c.loop-rest-test.false) in
-    sym (append-nil c.loop-rest.out.lines)
-    ∙ ap (λ ls. c.loop-rest.out.lines ++ ls) (sym (no_line c.loop-rest.at rest none))
+    sym (append-nil c.loop-rest.lines.items)
+    ∙ ap (λ ls. c.loop-rest.lines.items ++ ls) (sym (no_line c.loop-rest.at rest none))
     ∙ c.loop-rest.invariant.lines

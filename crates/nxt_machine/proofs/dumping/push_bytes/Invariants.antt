@@ -5,7 +5,7 @@ use Rattle.nxt_machine.proofs.dumping.push_bytes.Given as goal
 
 abbrev pub invariant-loop-rest : goal.invariant-loop-rest
 invariant-loop-rest l = record {
-  lines : l.out.lines ++ bytes_lines (length l.rest) l.at l.rest ≡ l.fn.out.lines ++ bytes_lines (length l.fn.bytes) 0 l.fn.bytes;
+  lines : l.lines.items ++ bytes_lines (length l.rest) l.at l.rest ≡ l.fn.lines.items ++ bytes_lines (length l.fn.bytes) 0 l.fn.bytes;
   place : l.at + length l.rest ≡ length l.fn.bytes;
 }
 

@@ -1,12 +1,12 @@
--- Of one port its motor is set, if there is one.
-use Rattle.std.proofs.Common.{Result, Ok, Err, OnOk, ◌≡◌, ◌++◌, true, false, sym, ap, ◌∙◌, drop, arith}
+-- Of one port its motor is set, if there is one, and nothing fails behind the room.
+use Rattle.std.proofs.Common.{Result, Ok, Err, OnOk, OnErr, IsOk, ◌≡◌, ◌<◌, ◌++◌, ◌==◌, [], Bool, true, false, refl, sym, ap, ap₂, ◌∙◌, drop, arith}
 use Rattle.std.specs.Prelude.{nat_lt}
 use Rattle.std.proofs.lemmas.Bool.Decides.{nat_tests}
 use Rattle.std.proofs.lemmas.List.{append-nil}
 use Rattle.nxt_types.specs.Statements.{statement_of}
 use Rattle.nxt_model.specs.Devices.{Change}
 use Rattle.nxt_machine.specs.Numbers.{set_motor_by}
-use Rattle.nxt_machine.proofs.Meanings.Ports.{one_port, no_port}
+use Rattle.nxt_machine.proofs.Meanings.Ports.{one_port, no_port, silent_flags}
 use Rattle.nxt_machine.proofs.ports.set_one.Goals as goal
 
 on_ok : {T E : Type 0} {P Q : Type 0} (r : Result T E) → (P → Q) → OnOk r P → OnOk r Q
@@ -32,4 +32,43 @@ returns-clause-devices c =
 pub returns-clause-lines : goal.returns-clause-lines
 returns-clause-lines c =
     let one : nat_lt c.args.port 3 ≡ true = grind (arith, nat_tests, c.if-port-ge3.false) in
-    on_ok c.set_motor.result (λ did. did ∙ ap (λ ls. c.args.out.now.lines ++ ls) (sym (ap (λ (x : Change). x.lines) (one_port c.args.port (set_motor_by c.args.space.now.vars (drop 1 (statement_of c.args.instr.now c.args.words.now).args)) c.args.io.now one)))) c.set_motor.ensures.lines
+    on_ok c.set_motor.result (λ did. did ∙ ap₂ (λ old ls. old ++ ls) c.in_ok-room_if.ensures.lines (sym (ap (λ (x : Change). x.lines) (one_port c.args.port (set_motor_by c.args.space.now.vars (drop 1 (statement_of c.args.instr.now c.args.words.now).args)) c.args.io.now one)))) c.set_motor.ensures.lines
+
+-- ---- there is room
+
+no_err : {T E : Type 0} (P : Type 0) (r : Result T E) → IsOk r → OnErr r P
+no_err P (Ok x) is = tt
+no_err P (Err e) is = let no : ⊥ = cc in absurd no
+
+-- room was made, or there is no line
+done : (c : goal.After-set_motor) → IsOk c.set_motor.result
+done c = by (c.flags_after-tells.result == 0) refl
+  where
+    by : (b : Bool) → (c.flags_after-tells.result == 0) ≡ b → IsOk c.set_motor.result
+    by true e =
+        let none : c.flags_after-tells.result ≡ 0 = grind (arith, nat_tests, e) in
+        c.set_motor.ensures.silent (sym c.flags_after-tells.ensures ∙ none)
+    by false e = c.set_motor.ensures.succeeds (c.in_ok-room_if.ensures.room (grind (arith, nat_tests, e)))
+
+pub returns-clause-same : goal.returns-clause-same
+returns-clause-same c = no_err _ c.set_motor.result (done c)
+
+pub returns-clause-told : goal.returns-clause-told
+returns-clause-told c = no_err _ c.set_motor.result (done c)
+
+pub returns-clause-silent : goal.returns-clause-silent
+returns-clause-silent c none = done c
+
+pub returns-in_err-room_if-clause-silent : goal.returns-in_err-room_if-clause-silent
+returns-in_err-room_if-clause-silent c none =
+    let s = c.args.space.now.vars in
+    let pairs = drop 1 (statement_of c.args.instr.now c.args.words.now).args in
+    let port = c.args.port in
+    let d = c.args.io.now in
+    let low : port < 3 = omega (arith, c.if-port-ge3.false) in
+    let one : nat_lt port 3 ≡ true = grind (arith, nat_tests, c.if-port-ge3.false) in
+    let quiet : (set_motor_by s pairs port d).lines ≡ [] = sym (ap (λ (x : Change). x.lines) (one_port port (set_motor_by s pairs) d one)) ∙ none in
+    let flags : c.flags_after-tells.result ≡ 0 = c.flags_after-tells.ensures ∙ silent_flags s pairs port d low c.is_sound.ensures.motors quiet in
+    let fails : false ≡ true = c.in_err-room_if.ensures.none (grind (arith, nat_tests, flags)) in
+    let no : ⊥ = cc in
+    absurd no

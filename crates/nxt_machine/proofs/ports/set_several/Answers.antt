@@ -1,5 +1,5 @@
 -- The next port's motor is set, and the others are left.
-use Rattle.std.proofs.Common.{◌≡◌, ◌+◌, ◌<◌, ◌++◌, ℕ, List, [], ◌∷◌, suc, length, drop, true, sym, ap, ap₂, ◌∙◌, arith, append_assoc, slice_index_or, refl, map}
+use Rattle.std.proofs.Common.{◌≡◌, ◌+◌, ◌<◌, ◌++◌, ℕ, List, [], ◌∷◌, suc, length, drop, true, false, sym, ap, ap₂, ◌∙◌, arith, append_assoc, slice_index_or, refl, map}
 use Rattle.std.specs.Prelude.{filter, if◌then◌else◌}
 use Rattle.nxt_types.specs.Statements.{statement_of}
 use Rattle.nxt_model.specs.Devices.{Devices, Change, each_port, and_then}
@@ -26,6 +26,7 @@ loop-port-preserved c =
     let io : c.set_motor.new.io ≡ (f p d).devices = c.in_ok-set_motor.ensures.devices in
     let out : c.set_motor.new.out.lines ≡ c.loop-port.out.lines ++ (f p d).lines = c.in_ok-set_motor.ensures.lines in
     record {
+      room = omega (arith, c.loop-port.invariant.room, c.set_motor.ensures.room);
       items = refl;
       devices =
           ap (λ e. (rest (k + 1) e).devices) io
@@ -39,3 +40,19 @@ loop-port-preserved c =
           ∙ ap (λ ls. c.loop-port.out.lines ++ ls) (sym (ap (λ (x : Change). x.lines) taken))
           ∙ c.loop-port.invariant.lines;
     }
+
+-- ---- there is room
+
+pub returns-in_err-set_motor-clause-same : goal.returns-in_err-set_motor-clause-same
+returns-in_err-set_motor-clause-same c =
+    let few : c.loop-port.port-index < 3 = c.loop-port-test.true in
+    let fails : false ≡ true = c.in_err-set_motor.ensures.succeeds (omega (arith, few, c.loop-port.invariant.room)) in
+    let no : ⊥ = cc in
+    absurd no
+
+pub returns-in_err-set_motor-clause-told : goal.returns-in_err-set_motor-clause-told
+returns-in_err-set_motor-clause-told c =
+    let few : c.loop-port.port-index < 3 = c.loop-port-test.true in
+    let fails : false ≡ true = c.in_err-set_motor.ensures.succeeds (omega (arith, few, c.loop-port.invariant.room)) in
+    let no : ⊥ = cc in
+    absurd no

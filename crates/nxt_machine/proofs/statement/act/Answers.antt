@@ -7,6 +7,7 @@ use Rattle.nxt_types.specs.Names.{named}
 use Rattle.nxt_types.specs.Statements.{statement_of}
 use Rattle.nxt_types.specs.declared.memory.NoMemory.{NoMemory}
 use Rattle.nxt_model.specs.Devices.{Devices, Change, changed, set_in, get_in, get_out}
+use Rattle.nxt_model.specs.Means.Effects.{Effect}
 use Rattle.nxt_model.specs.Values.{Num, stored}
 use Rattle.nxt_model.specs.Variables.{Plain, part_of}
 use Rattle.nxt_model.specs.declared.line.Line.{Line}
@@ -17,7 +18,7 @@ use Rattle.nxt_machine.specs.Numbers.{number_at, ports_at, set_motors_by}
 use Rattle.nxt_machine.specs.Inside.Programs.{IsKept}
 use Rattle.nxt_machine.specs.Inside.Statements.{Told, IsDone}
 use Rattle.nxt_machine.proofs.Kept.{fit_there, program_kept}
-use Rattle.nxt_machine.proofs.Meanings.Acts.{setout_effect, setin_effect, getin_effect, getout_effect, gettick_effect, getin_refers, getout_refers, gettick_refers, ports_fit, getin_property, getout_property}
+use Rattle.nxt_machine.proofs.Meanings.Acts.{setout_effect, setin_effect, getin_effect, getout_effect, gettick_effect, getin_refers, getout_refers, gettick_refers, ports_fit, port_number, getin_property, getout_property}
 use Rattle.nxt_machine.proofs.Meanings.Ended.{devices_done, number_done}
 use Rattle.nxt_machine.proofs.Meanings.OfClumps.{input_fits, output_fits, tick_fits}
 use Rattle.nxt_machine.proofs.statement.act.Goals as goal
@@ -63,6 +64,17 @@ returns-in-Setout-clause-done c =
     (λ (ls : List Line). IsDone t st old (record { vars = s; devices = (change words).devices; lines = ls }))
     (sym (lines ∙ ap (λ ws. old.lines ++ (change ws).lines) same))
     done))
+
+pub returns-in-Setout-clause-numbers : goal.returns-in-Setout-clause-numbers
+returns-in-Setout-clause-numbers c works silent =
+    let p = c.args.program.now in
+    let s = p.space.vars in
+    let i = c.args.placed.instr in
+    let words = p.code.words in
+    let named = (ports_fit s i words c.in-Setout.is (fit_there p c.requires.program c.requires.at.0 c.args.placed c.requires.at.1)).named in
+    let none = sym (ap (λ (e : Effect). e.lines) (setout_effect s i words c.args.io.now (clock_of c.args.clock) c.in-Setout.is named)) ∙ silent in
+    c.set_output.ensures.silent (port_number s i words c.in-Setout.is named works)
+    (ap (λ ws. (set_motors_by s (ports_at s i.a) (drop 1 (statement_of i ws).args) c.args.io.now).lines) c.words-words.ensures ∙ none)
 
 pub get_output-requires-clause-number : goal.get_output-requires-clause-number
 get_output-requires-clause-number c =

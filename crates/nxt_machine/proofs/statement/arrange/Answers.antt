@@ -16,7 +16,7 @@ use Rattle.nxt_machine.specs.Inside.Statements.{Told, IsPassed}
 use Rattle.nxt_machine.specs.declared.program.Program.{Program}
 use Rattle.nxt_machine.proofs.Keeping.FirstStored.{arranged_stays}
 use Rattle.nxt_machine.proofs.Meanings.Ended.{list_ran, list_refused}
-use Rattle.nxt_machine.proofs.Kept.{origin, there, fit_there, whole_there, kept_after, shapes_kept, still_program, same_image}
+use Rattle.nxt_machine.proofs.Kept.{origin, there, fit_there, whole_there, kept_after, shapes_kept, still_program, same_image, unmoved}
 use Rattle.nxt_machine.proofs.statement.arrange.Goals as goal
 
 pub run_array-requires : goal.run_array-requires
@@ -80,6 +80,14 @@ returns-in-Err-NoMemory-clause-program c =
 
 pub returns-in-Err-NoMemory-clause-image : goal.returns-in-Err-NoMemory-clause-image
 returns-in-Err-NoMemory-clause-image c = same_image _ _ c.args.program.now c.run_array.new.space c.run_array.result (c.run_array.ensures.does at_start origin)
+
+-- ---- refusals
+
+pub returns-in-Err-PoolPassed-clause-passed : goal.returns-in-Err-PoolPassed-clause-passed
+returns-in-Err-PoolPassed-clause-passed c = unmoved _ _ c.args.program.now c.run_array.new.space c.run_array.result c.in-Err-PoolPassed.field-0 c.in-Err-PoolPassed.is (c.run_array.ensures.does at_start origin)
+
+pub returns-in-Err-NoMemory-clause-same : goal.returns-in-Err-NoMemory-clause-same
+returns-in-Err-NoMemory-clause-same c = unmoved _ _ c.args.program.now c.run_array.new.space c.run_array.result c.in-Err-NoMemory.field-0 c.in-Err-NoMemory.is (c.run_array.ensures.does at_start origin)
 
 -- ---- what stays where it is
 

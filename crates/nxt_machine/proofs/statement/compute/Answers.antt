@@ -17,7 +17,7 @@ use Rattle.nxt_machine.specs.Inside.Statements.{Told, IsPassed}
 use Rattle.nxt_machine.specs.declared.program.Program.{Program}
 use Rattle.nxt_machine.proofs.Keeping.FirstStored.{computed_stays}
 use Rattle.nxt_machine.proofs.Meanings.Ended.{Tells, fell, jumped, refused}
-use Rattle.nxt_machine.proofs.Kept.{origin, statement_there, fit_there, kept_after, shapes_kept, still_program, same_image}
+use Rattle.nxt_machine.proofs.Kept.{origin, statement_there, fit_there, kept_after, shapes_kept, still_program, same_image, unmoved}
 use Rattle.nxt_machine.proofs.statement.compute.Goals as goal
 
 pub run_op-requires : goal.run_op-requires
@@ -99,6 +99,14 @@ returns-in-Err-NoMemory-clause-program c =
 
 pub returns-in-Err-NoMemory-clause-image : goal.returns-in-Err-NoMemory-clause-image
 returns-in-Err-NoMemory-clause-image c = same_image _ _ c.args.program.now c.run_op.new.space c.run_op.result (c.run_op.ensures.does at_start origin)
+
+-- ---- refusals
+
+pub returns-in-Err-PoolPassed-clause-passed : goal.returns-in-Err-PoolPassed-clause-passed
+returns-in-Err-PoolPassed-clause-passed c = unmoved _ _ c.args.program.now c.run_op.new.space c.run_op.result c.in-Err-PoolPassed.field-0 c.in-Err-PoolPassed.is (c.run_op.ensures.does at_start origin)
+
+pub returns-in-Err-NoMemory-clause-same : goal.returns-in-Err-NoMemory-clause-same
+returns-in-Err-NoMemory-clause-same c = unmoved _ _ c.args.program.now c.run_op.new.space c.run_op.result c.in-Err-NoMemory.field-0 c.in-Err-NoMemory.is (c.run_op.ensures.does at_start origin)
 
 -- ---- what stays where it is
 

@@ -195,3 +195,21 @@ returns-in_err-compute-clause-leaves c =
     (λ b. Leaves (if b then i.a ∷ [] else []) c.args.space.now c.compute.new.space)
     (sym stored)
     (subst (λ v. Leaves (i.a ∷ []) v c.compute.new.space) same c.compute.ensures.leaves)
+
+-- ---- statements on numbers alone
+
+pub returns-in_err-holds-clause-numbers : goal.returns-in_err-holds-clause-numbers
+returns-in_err-holds-clause-numbers c numbers =
+    let s = c.args.space.now.vars in
+    let i = c.args.i.now in
+    let lists : on_numbers s i ≡ false = subst (IsReady s i 0) ((c.in_default.ensures {u = tt}).other refl) c.made_ready.ensures in
+    let no : ⊥ = cc in
+    absurd no
+
+pub returns-in_err-compute-clause-numbers : goal.returns-in_err-compute-clause-numbers
+returns-in_err-compute-clause-numbers c numbers =
+    let s = c.args.space.now.vars in
+    let i = c.args.i.now in
+    let lists : on_numbers s i ≡ false = subst (IsReady s i 0) ((c.in_default.ensures {u = tt}).other refl) c.made_ready.ensures in
+    let no : ⊥ = cc in
+    absurd no

@@ -26,8 +26,11 @@ returns-then-eq-7 c = named c.args.name.now (codes "random") _ _ (sym c.eq-else-
 pub returns-then-eq-8 : goal.returns-then-eq-8
 returns-then-eq-8 c = named c.args.name.now (codes "compact") _ _ (sym c.eq-else-eq-7.ensures ∙ c.if-eq-8.true) c.compact.ensures
 
-pub returns-else-eq-8 : goal.returns-else-eq-8
-returns-else-eq-8 c =
+pub returns-then-eq-9 : goal.returns-then-eq-9
+returns-then-eq-9 c = named c.args.name.now (codes "dump") _ _ (sym c.eq-else-eq-8.ensures ∙ c.if-eq-9.true) c.dump.ensures
+
+pub returns-else-eq-9 : goal.returns-else-eq-9
+returns-else-eq-9 c =
     no_form c.args.name.now _
     (sym c.eq.ensures ∙ c.if-eq.false)
     (sym c.eq-else-eq.ensures ∙ c.if-eq-2.false)
@@ -37,3 +40,4 @@ returns-else-eq-8 c =
     (sym c.eq-else-eq-5.ensures ∙ c.if-eq-6.false)
     (sym c.eq-else-eq-6.ensures ∙ c.if-eq-7.false)
     (sym c.eq-else-eq-7.ensures ∙ c.if-eq-8.false)
+    (sym c.eq-else-eq-8.ensures ∙ c.if-eq-9.false)

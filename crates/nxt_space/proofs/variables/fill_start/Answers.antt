@@ -6,7 +6,7 @@ use Rattle.nxt_types.specs.Pool.{pool_size}
 use Rattle.nxt_heap.specs.Lists.{footprint}
 use Rattle.nxt_values.specs.Fills.{needs_for_all, FillsAll}
 use Rattle.nxt_values.specs.declared.reading.Region.TheVariants.{Static}
-use Rattle.nxt_space.proofs.Start.Filled.{start_fits, start_pool, start_entries, not_passed, start_stored}
+use Rattle.nxt_space.proofs.Laws.StartFilled.{start_fits, start_pool, start_entries, not_passed, start_stored}
 use Rattle.nxt_space.proofs.variables.fill_start.Goals as goal
 
 pub fill_members-filled-requires-clause-pool : goal.fill_members-filled-requires-clause-pool

@@ -1,7 +1,7 @@
 -- The first member is a number.
 use Rattle.std.proofs.Common.{w64, to_z-of_z}
 use Rattle.nxt_sys.proofs.Answered.{answered}
-use Rattle.nxt_sys.proofs.Named.{first_field}
+use Rattle.nxt_sys.proofs.Laws.Named.{first_field}
 use Rattle.nxt_sys.proofs.answers.answer.Goals as goal
 
 pub set-requires : goal.set-requires

@@ -13,7 +13,7 @@ use Rattle.nxt_operands.proofs.Laws.Leaving.{then_number}
 use Rattle.nxt_sys.specs.Answers.{with_member}
 use Rattle.nxt_sys.proofs.Answered.{message_done, message_refused, same_cluster}
 use Rattle.nxt_sys.proofs.Keeping.{same_shapes, same_entry}
-use Rattle.nxt_sys.proofs.Named.{member_some}
+use Rattle.nxt_sys.proofs.Laws.Named.{member_some}
 use Rattle.nxt_sys.proofs.answers.answer_message.Goals as goal
 
 pub store_bytes-requires-clause-named : goal.store_bytes-requires-clause-named

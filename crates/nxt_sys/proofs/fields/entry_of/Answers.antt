@@ -3,7 +3,7 @@ use Rattle.std.proofs.Common.{◌≡◌, ◌+◌, take, ap, ◌∙◌, arith}
 use Rattle.std.specs.List.{sum_by}
 use Rattle.nxt_types.specs.Calls.{cluster_fields}
 use Rattle.nxt_sys.specs.Fields.{width}
-use Rattle.nxt_sys.proofs.Named.{entry, entry_small}
+use Rattle.nxt_sys.proofs.Laws.Named.{entry, entry_small}
 use Rattle.nxt_sys.proofs.fields.entry_of.Goals as goal
 
 before : (c : goal.After-widths-before) → c.widths-before.result ≡ sum_by width (take c.args.k (cluster_fields c.args.call))

@@ -2,7 +2,7 @@
 use Rattle.std.proofs.Common.{ap, ◌∙◌, w64, to_z-of_z}
 use Rattle.nxt_types.specs.declared.calls.Field.TheVariants.{Number as a_number}
 use Rattle.nxt_model.specs.Values.{number}
-use Rattle.nxt_sys.proofs.Named.{member_value}
+use Rattle.nxt_sys.proofs.Laws.Named.{member_value}
 use Rattle.nxt_sys.proofs.fields.number.Goals as goal
 
 pub returns : goal.returns

@@ -3,7 +3,7 @@ use Rattle.std.proofs.Common.{w64, to_z-of_z, ap, ◌∙◌}
 use Rattle.nxt_types.specs.declared.calls.Field.TheVariants.{Number}
 use Rattle.nxt_space.specs.Variables.{value_of}
 use Rattle.nxt_operands.proofs.Laws.Beside.{list_beside}
-use Rattle.nxt_sys.proofs.Named.{member_set}
+use Rattle.nxt_sys.proofs.Laws.Named.{member_set}
 use Rattle.nxt_sys.proofs.fields.set.Goals as goal
 
 pub set-requires : goal.set-requires

@@ -3,7 +3,7 @@ use Rattle.std.proofs.Common.{◌≡◌, IfOk, subst}
 use Rattle.nxt_types.specs.declared.calls.Field.TheVariants.{Text as a_text}
 use Rattle.nxt_model.specs.Values.{bytes_of}
 use Rattle.nxt_texts.specs.Texts.{bytes_in}
-use Rattle.nxt_sys.proofs.Named.{member_some, member_value}
+use Rattle.nxt_sys.proofs.Laws.Named.{member_some, member_value}
 use Rattle.nxt_sys.proofs.fields.text.Goals as goal
 
 pub text_of-requires-clause-named : goal.text_of-requires-clause-named

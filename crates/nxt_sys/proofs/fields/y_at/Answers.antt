@@ -3,7 +3,7 @@ use Rattle.std.proofs.Common.{ap, ◌+◌, ◌∙◌, arith, w64, to_z-of_z}
 use Rattle.nxt_types.specs.declared.calls.Field.TheVariants.{Number as a_number, Place as a_place}
 use Rattle.nxt_model.specs.SystemCalls.{field_number}
 use Rattle.nxt_model.specs.Values.{number}
-use Rattle.nxt_sys.proofs.Named.{member_value, is_place}
+use Rattle.nxt_sys.proofs.Laws.Named.{member_value, is_place}
 use Rattle.nxt_sys.proofs.fields.y_at.Goals as goal
 
 pub overflow_add-entry_of : goal.overflow_add-entry_of

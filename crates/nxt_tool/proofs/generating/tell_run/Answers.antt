@@ -5,11 +5,11 @@ use Rattle.nxt_gen.specs.Generator.{told_of}
 use Rattle.nxt_model.specs.declared.event.ScriptRow.{ScriptRow}
 use Rattle.nxt_model.specs.declared.line.Line.{Line}
 use Rattle.nxt_model.specs.Image as image
-use Rattle.nxt_model.specs.Image.{Image}
-use Rattle.nxt_model.specs.Program.{State, start}
+use Rattle.nxt_model.specs.Program.{start}
 use Rattle.nxt_model.specs.Step.{events_of, run}
 use Rattle.nxt_tool.specs.Assembling.{HasTextCause, IsTextImage, IsTold}
-use Rattle.nxt_tool.specs.Running.{Held, held, HasRun, held_in}
+use Rattle.nxt_machine.specs.Machines.{MachineViews}
+use Rattle.nxt_tool.specs.Runs.{HasRun}
 use Rattle.nxt_tool.specs.declared.fault.AcceptFault.{AcceptFault}
 use Rattle.nxt_tool.specs.declared.fault.AcceptFault.TheVariants.{NoMemory}
 use Rattle.nxt_tool.proofs.generating.tell_run.Goals as goal
@@ -20,9 +20,9 @@ no_memory (Ok x) P text e = absurd e
 no_memory (Err f) P text e = subst (HasTextCause text) (sym e) tt
 
 -- the lines of the image are those of the text
-told_by : (text : List ℕ) (rows : List ScriptRow) (n : ℕ) (of : Image) (state : State) (h : Held) (before after : List Line) (told : List ℕ) → IsTextImage text of → state ≡ start (image.program_of of) → before ≡ []
-    → HasRun (held of state) h (flat_map events_of rows) before after → told ≡ told_of n after → IsTold text rows n told
-told_by text rows n of state h before after told i first none r is =
+told_by : (text : List ℕ) (rows : List ScriptRow) (n : ℕ) (m m' : MachineViews) (before after : List Line) (told : List ℕ) → IsTextImage text m.image → m.state ≡ start (image.program_of m.image) → before ≡ []
+    → HasRun m m' (flat_map events_of rows) before after → told ≡ told_of n after → IsTold text rows n told
+told_by text rows n m m' before after told i first none r is =
     let es = flat_map events_of rows in
     record {
       program = i.program;
@@ -31,10 +31,10 @@ told_by text rows n of state h before after told i first none r is =
       told_is = is
           ∙ ap (told_of n)
           (r.lines
-          ∙ ap (λ ls. ls ++ (run (image.program_of of) es state).lines) none
-          ∙ ap (λ s. (run (image.program_of of) es s).lines) first
+          ∙ ap (λ ls. ls ++ (run (image.program_of m.image) es m.state).lines) none
+          ∙ ap (λ s. (run (image.program_of m.image) es s).lines) first
           ∙ ap (λ im. (run (image.program_of im) es (start (image.program_of im))).lines) i.image_is
-          ∙ sym (i.faithful.lines es));
+          ∙ sym (i.faithful.runs.lines es));
     }
 
 pub returns-in_err-run_rows : goal.returns-in_err-run_rows
@@ -47,7 +47,6 @@ returns-in_err-told c =
 
 pub returns : goal.returns
 returns c =
-    let m = c.in_ok-machine.machine in
-    told_by c.args.text.now c.args.rows.now c.args.number m.image m.state (held_in c.run_rows.new.machine) c.new-lines.result.lines c.run_rows.new.lines.lines c.in_ok-told.field-0
+    told_by c.args.text.now c.args.rows.now c.args.number c.in_ok-machine.machine c.run_rows.new.machine c.new-lines.result.lines c.run_rows.new.lines.lines c.in_ok-told.field-0
     c.in_ok-machine.ensures.spelled c.in_ok-machine.ensures.start c.new-lines.ensures c.in_ok-run_rows.ensures
     (c.in_ok-told.ensures ∙ ap (told_of c.args.number) c.as_slice.ensures)

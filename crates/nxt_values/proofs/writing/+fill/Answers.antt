@@ -15,8 +15,8 @@ use Rattle.nxt_values.specs.declared.elements.Elements.{Elements}
 use Rattle.nxt_values.specs.declared.reading.Place.{Place}
 use Rattle.nxt_types.proofs.Laws.Trees.{group_tree}
 use Rattle.nxt_values.proofs.Laws.Needs.{on_err}
-use Rattle.nxt_values.proofs.Fill.Opened.{footprint_put}
-use Rattle.nxt_values.proofs.Fill.Steps.{MembersLeft, number_filled, cluster_filled, elements_begin, elements_end, element_room, element_done, member_room, member_done, members_end, element_passed}
+use Rattle.nxt_values.proofs.Laws.Opened.{footprint_put}
+use Rattle.nxt_values.proofs.Laws.Steps.{MembersLeft, number_filled, cluster_filled, elements_begin, elements_end, element_room, element_done, member_room, member_done, members_end, element_passed}
 use Rattle.nxt_values.proofs.Fill.Lists.{opened_room, opened_filled, opened_passed, list_passed}
 use Rattle.nxt_heap.proofs.Laws.Moves.{rows_same, rows_then}
 use Rattle.nxt_values.proofs.Fill.NoLists.{none_among}

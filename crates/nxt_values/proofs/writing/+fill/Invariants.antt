@@ -6,7 +6,7 @@ use Rattle.nxt_types.specs.Names.{size, sizes}
 use Rattle.nxt_values.specs.Regions.{bytes_in}
 use Rattle.nxt_values.specs.Fills.{needs_for_all, needs_for_each, FillAllThere}
 use Rattle.nxt_values.specs.Elements.{FillsElements}
-use Rattle.nxt_values.proofs.Fill.Steps.{ElementsLeft, MembersLeft}
+use Rattle.nxt_values.proofs.Laws.Steps.{ElementsLeft, MembersLeft}
 use Rattle.nxt_values.proofs.writing.+fill.Given as goal
 
 abbrev pub decreases-fill : goal.decreases-fill

@@ -11,7 +11,7 @@ use Rattle.nxt_values.specs.Regions.{bytes_in}
 use Rattle.nxt_values.specs.Writes.{with_bytes, put}
 use Rattle.nxt_values.specs.Fills.{needs}
 use Rattle.nxt_values.proofs.Laws.Needs.{row_passed, list_bytes_passed, count_passed, on_err}
-use Rattle.nxt_values.proofs.Fill.Opened.{made_empty, made_long, region_taken, opens}
+use Rattle.nxt_values.proofs.Laws.Opened.{made_empty, made_long, region_taken, opens}
 use Rattle.nxt_values.proofs.writing.open_list.Goals as goal
 
 pub resize-requires-clause-whole : goal.resize-requires-clause-whole

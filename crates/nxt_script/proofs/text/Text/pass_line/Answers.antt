@@ -29,7 +29,7 @@ returns-clause-ok c =
     let passed : c.self.inside.passed ≡ a.counts.bytes = ap (λ f. f.counts.bytes) view in
     let taken : n ≡ taken_by k a.pending = c.min-taken.ensures ∙ ap (λ l. min (k + 1) (length l)) bytes in
     let few = c.if-self-taken-gt-SCRIPT_BYTES.false in
-    let counts : Counts = record { bytes = c.self.inside.passed + n; records = c.self.inside.rows; bytecodes = c.self.inside.bytecodes } in
+    let counts : Counts = record { bytes = c.self.inside.passed + n; records = c.self.inside.rows; bytecodes = c.self.inside.bytecodes; dumps = c.self.inside.dumps } in
     let counts_are : counts ≡ at_bytes (a.counts.bytes + taken_by k a.pending) a.counts =
     ap (λ f. at_bytes (f.counts.bytes + n) f.counts) view ∙ ap (λ m. at_bytes (a.counts.bytes + m) a.counts) taken in
     let fields = option_map fields_of c.in_ok-found.found in

@@ -1,0 +1,4 @@
+pub mod Writing
+pub mod Statuses
+pub mod Running
+pub mod Cut
