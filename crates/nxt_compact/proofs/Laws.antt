@@ -4,6 +4,8 @@
 pub mod Shifted
 -- Rows and blocks: the list of blocks, and soundness by rows.
 pub mod InPool
+-- The next block of a pool, by place.
+pub mod Next
 -- A block that moves down.
 pub mod Moving
 -- Moves one after another, and the loop of a compaction.

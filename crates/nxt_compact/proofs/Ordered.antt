@@ -17,7 +17,7 @@ use Rattle.nxt_compact.specs.Pools.{block_bytes, block_of, blocks_in, IsSound, I
 use Rattle.nxt_compact.specs.Orders.{block_key, IsKey, Listed, IsOrder}
 use Rattle.nxt_compact.proofs.Laws.Shifted.{bytes_of_table}
 use Rattle.nxt_compact.proofs.Laws.InPool.{full_in, in_full, standing}
-use Rattle.nxt_compact.proofs.Next.{IsNext}
+use Rattle.nxt_compact.proofs.Laws.Next.{IsNext}
 use Rattle.nxt_compact.proofs.Laws.Going.{Going, first_full, place_moved, moved_full, full_before}
 
 pub few_rows : (pool : List ℕ) (table base : ℕ) → IsSound pool table base → row_count pool table ≤ 6553

@@ -111,12 +111,8 @@ module _ (old new : List ℕ) (table base row : ℕ) (p : IsPool old table base)
     | inr l ↦ l
   ]
 
-  -- the table begins below it
-  pub table_below : (end : ℕ) → IsEnd old table end → IsFull old table row → (dope_row old table row).place + block_bytes (dope_row old table row) ≡ end → (q : ℕ) × IsFull new table q × ((dope_row new table q).place < (dope_row old table row).place)
-  table_below end e own last =
-      let first = first_full old table base p.sound in
-      let other : 0 ≢ row = λ h. omega (arith, h, above) in
-      (0, same.then 0 other first, omega (arith, below_last end 0 e own last first other, first.some, same.place 0 other first))
+  pub emptied_most : (end : ℕ) → IsEnd old table end → IsFull old table row → (dope_row old table row).place + block_bytes (dope_row old table row) ≡ end → (q : ℕ) → IsFull new table q → (dope_row new table q).place + block_bytes (dope_row new table q) ≤ (dope_row old table row).place
+  emptied_most end e own last q f = let g = was q f in omega (arith, below_last end q e own last g (not_own q f), same.place q (not_own q f) g, same.bytes q (not_own q f) g)
 
   pub emptied_last : (end last : ℕ) → IsEnd old table end → IsFull old table row → (dope_row old table row).place + block_bytes (dope_row old table row) ≡ end → IsEndBelow new table (dope_row old table row).place last → IsEnd new table last
   emptied_last end last e own is b = record {

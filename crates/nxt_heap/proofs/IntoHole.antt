@@ -1,4 +1,4 @@
--- A block that moves into a hole.
+-- A block that moves to where no other one has a byte.
 use Rattle.std.proofs.Common.{◌≡◌, ◌≢◌, ℕ, ◌+◌, ◌/◌, ◌%◌, ◌<◌, ◌≤◌, inl, inr, List, set, refl, ap, sym, ◌∙◌, arith}
 use Rattle.std.proofs.lemmas.Bool.{cases_eq}
 use Rattle.nxt_rows.specs.Rows.{dope_row}
@@ -7,12 +7,16 @@ use Rattle.nxt_compact.specs.Steps.{IsMovable, moved_to}
 use Rattle.nxt_compact.proofs.Laws.Going.{first_full, full_before, moved_full, place_moved, bytes_moved}
 use Rattle.nxt_compact.proofs.Laws.Moving.{moved_here, moved_there}
 use Rattle.nxt_heap.specs.declared.blocks.Places.{Places}
-use Rattle.nxt_heap.specs.Inside.Pool.{IsPool, IsHole, IsEnd, IsEndBelow, AreFronts, HasMoved, no_row}
+use Rattle.nxt_heap.specs.Inside.Pool.{IsPool, IsHole, IsOpenTo, IsEnd, IsEndBelow, AreFronts, HasMoved, no_row}
 use Rattle.nxt_heap.proofs.Begins.{SameOthers, drop_front, fronts_kept, put_front}
 use Rattle.nxt_heap.proofs.Settled.{end_inside}
 use Rattle.nxt_heap.proofs.AfterMoves.{moved_sound, pool_moved}
 
-module _ (old : List ℕ) (table base row place : ℕ) (p : IsPool old table base) (full : IsFull old table row) (above : base ≤ place) (word : place % 4 ≡ 0) (hole : IsHole old table place (block_bytes (dope_row old table row))) where
+-- a hole is open to each block
+pub hole_open : (pool : List ℕ) (table row at bytes : ℕ) → IsHole pool table at bytes → IsOpenTo pool table row at bytes
+hole_open pool table row at bytes h = record { within = h.within; others = λ q f _. h.others q f }
+
+module _ (old : List ℕ) (table base row place : ℕ) (p : IsPool old table base) (full : IsFull old table row) (above : base ≤ place) (word : place % 4 ≡ 0) (hole : IsOpenTo old table row place (block_bytes (dope_row old table row))) where
   first : IsFull old table 0
   first = first_full old table base p.sound
 
@@ -29,7 +33,7 @@ module _ (old : List ℕ) (table base row place : ℕ) (p : IsPool old table bas
     room = hole.within;
     table_inside = omega (arith, p.sound.within 0 first, p.sound.place);
     own = λ q f other. p.sound.apart row q full f (λ e. other (sym e));
-    others = λ q f other. hole.others q f;
+    others = λ q f other. hole.others q f other;
     lists = λ q f some. elim (p.sound.apart 0 q first f (λ e. omega (arith, e, some))) [
       | inl l ↦ inl (omega (arith, l, p.sound.place))
       | inr l ↦ inr (omega (arith, l, p.sound.place))
@@ -56,12 +60,12 @@ module _ (old : List ℕ) (table base row place : ℕ) (p : IsPool old table bas
     pub into_sound : IsSound new table' base
     into_sound = moved_sound base (moved_to (dope_row old table row).place place) old new table table' m p.sound
         (λ q r f g other. elim (cases_eq q row) [
-          | inl here ↦ elim (hole.others r g) [
+          | inl here ↦ elim (hole.others r g (λ e. other (here ∙ sym e))) [
             | inl l ↦ inl (omega (arith, l, to_row q here, same_bytes q here, to_other r g (λ e. other (here ∙ sym e))))
             | inr l ↦ inr (omega (arith, l, to_row q here, to_other r g (λ e. other (here ∙ sym e))))
           ]
           | inr there ↦ elim (cases_eq r row) [
-            | inl here ↦ elim (hole.others q f) [
+            | inl here ↦ elim (hole.others q f there) [
               | inl l ↦ inr (omega (arith, l, to_row r here, same_bytes r here, to_other q f there))
               | inr l ↦ inl (omega (arith, l, to_row r here, to_other q f there))
             ]

@@ -10,7 +10,9 @@ mod AfterMoves
 mod WordPlaces
 -- A pool without gaps, and one that settled.
 mod Settled
--- A block that moves into a hole.
+-- Blocks that settle one after another.
+mod Settling
+-- A block that moves to where no other one has a byte.
 mod IntoHole
 -- Room behind a block, where all gaps closed.
 mod Slid

@@ -18,7 +18,7 @@ use Rattle.nxt_heap.specs.Inside.Pool.{row_bytes, pool_at, IsPool, IsHole, IsFit
 use Rattle.nxt_compact.proofs.Laws.Opening.{all_pack}
 use Rattle.nxt_heap.specs.declared.blocks.Places.{Places}
 use Rattle.nxt_heap.proofs.Dumped.{some_bytes}
-use Rattle.nxt_heap.proofs.IntoHole.{into_others}
+use Rattle.nxt_heap.proofs.IntoHole.{hole_open, into_others}
 use Rattle.nxt_heap.proofs.Rooms.{smaller_hole}
 use Rattle.nxt_heap.proofs.Windows.{le-block}
 use Rattle.nxt_heap.proofs.Open.{open_is, lowest_fit, behind_true, empty_behind}
@@ -63,7 +63,7 @@ settles old new p q row bytes at settled is within none never c =
 pub moves_into : (old new : List ℕ) (p q : Places) (row bytes at : ℕ) → IsPool old p.table p.base → IsFull old p.table row → block_bytes (dope_row old p.table row) ≤ bytes → holds_behind p.base (record { bytes = old; table = p.table }) row bytes ≡ false → IsFit old p.table p.base bytes at
     → Moves p.base (moved_to (dope_row old p.table row).place at) old new p.table q.table → MakesRoom old new p q row bytes at
 moves_into old new p q row bytes at is full long never f m =
-    let hole = smaller_hole old p.table at bytes (block_bytes (dope_row old p.table row)) long f.hole in
+    let hole = hole_open old p.table row at (block_bytes (dope_row old p.table row)) (smaller_hole old p.table at bytes (block_bytes (dope_row old p.table row)) long f.hole) in
     let same = into_others old p.table p.base row at is full f.low f.word hole new q.table m in
     record {
       behind = λ e. absurd (false≢true (sym never ∙ e));

@@ -11,7 +11,7 @@ use Rattle.nxt_compact.proofs.Laws.Going.{full_before, place_moved, bytes_moved}
 use Rattle.nxt_compact.proofs.Laws.Opening.{all_pack}
 use Rattle.nxt_heap.specs.Inside.Pool.{IsPool, IsRoom, IsHole, IsFit, MayHave, AreFronts, no_row}
 use Rattle.nxt_heap.proofs.Begins.{none_found}
-use Rattle.nxt_heap.proofs.IntoHole.{into_others, into_place}
+use Rattle.nxt_heap.proofs.IntoHole.{hole_open, into_others, into_place}
 use Rattle.nxt_heap.proofs.WordPlaces.{total_words}
 
 -- a part of a hole is one
@@ -38,7 +38,7 @@ hole_room pool table base row bytes at none f = record {
 pub moved_room : (old new : List ℕ) (table table' base row bytes at : ℕ) (p : IsPool old table base) (full : IsFull old table row) → block_bytes (dope_row old table row) < bytes → (f : IsFit old table base bytes at)
     → Moves base (moved_to (dope_row old table row).place at) old new table table' → IsRoom new table' base row at bytes
 moved_room old new table table' base row bytes at p full more f m =
-    let hole = smaller_hole old table at bytes (block_bytes (dope_row old table row)) (omega (arith, more)) f.hole in
+    let hole = hole_open old table row at (block_bytes (dope_row old table row)) (smaller_hole old table at bytes (block_bytes (dope_row old table row)) (omega (arith, more)) f.hole) in
     let same = into_others old table base row at p full f.low f.word hole new table' m in
     record {
       above = f.low;

@@ -1,5 +1,5 @@
 -- A pool without gaps, and one that settled.
-use Rattle.std.proofs.Common.{◌≡◌, ℕ, ◌+◌, ◌-◌, ◌%◌, ◌<◌, ◌≤◌, inl, inr, cond, List, ◌∷◌, length, ap, sym, subst, ◌∙◌, arith}
+use Rattle.std.proofs.Common.{◌≡◌, ℕ, ◌+◌, ◌-◌, ◌%◌, ◌<◌, ◌≤◌, inl, inr, cond, List, [], ◌∷◌, length, refl, ap, sym, subst, ◌∙◌, arith}
 use Rattle.std.specs.Prelude.{min}
 use Rattle.std.proofs.lemmas.Bool.{cases_lt, ltb-false, lt-ltb, le-ltb}
 use Rattle.std.proofs.lemmas.List.Sums.{sum_by-cons}
@@ -12,11 +12,11 @@ use Rattle.nxt_blocks.proofs.Laws.Packing.{fits}
 use Rattle.nxt_blocks.proofs.Laws.Settling.{block_packed-le}
 use Rattle.nxt_blocks.proofs.Laws.Growing.{full, full-unsettled}
 use Rattle.nxt_rows.specs.Rows.{dope_row}
-use Rattle.nxt_compact.specs.Pools.{block_of, blocks_in, IsFull, Compacts}
+use Rattle.nxt_compact.specs.Pools.{block_bytes, block_of, blocks_in, IsFull, Compacts}
 use Rattle.nxt_compact.proofs.Laws.InPool.{full_in, in_full, standing}
 use Rattle.nxt_compact.proofs.Laws.Going.{first_full, same_moves, no_moves}
 use Rattle.nxt_compact.proofs.Laws.Compacted.{compacted_sound}
-use Rattle.nxt_heap.specs.Inside.Pool.{IsPool, IsEnd, IsHole, IsFit}
+use Rattle.nxt_heap.specs.Inside.Pool.{IsPool, IsEnd, IsEndBelow, IsHole, IsFit}
 use Rattle.nxt_heap.proofs.Begins.{words_of}
 use Rattle.nxt_heap.proofs.AfterMoves.{pool_moved}
 use Rattle.nxt_heap.proofs.WordPlaces.{after_words}
@@ -42,6 +42,63 @@ total_below pool table base end p e = fits (blocks_in pool table) base end (base
 
 pub end_inside : (pool : List ℕ) (table base end : ℕ) → IsPool pool table base → IsEnd pool table end → end ≤ pool_size
 end_inside pool table base end p e = omega (arith, p.sound.within e.is.0 e.is.1, e.is.2, p.size)
+
+-- of some blocks one ends last
+last_from : (xs : List Block) (x : Block) → (b : Block) × In b (x ∷ xs) × ((c : Block) → In c (x ∷ xs) → c.place + c.bytes ≤ b.place + b.bytes)
+last_from [] x = (
+  x,
+  inl refl,
+  λ c i. elim i [
+    | inl same ↦ omega (arith, ap (λ d. d.place + d.bytes) same)
+    | inr none ↦ absurd none
+  ],
+)
+last_from (y ∷ ys) x =
+    let last = last_from ys y in
+    elim (cases_lt (x.place + x.bytes) (last.0.place + last.0.bytes)) [
+      | inl less ↦ (
+        last.0,
+        inr last.1,
+        λ c i. elim i [
+          | inl same ↦ omega (arith, ap (λ d. d.place + d.bytes) same, less)
+          | inr other ↦ last.2 c other
+        ],
+      )
+      | inr more ↦ (
+        x,
+        inl refl,
+        λ c i. elim i [
+          | inl same ↦ omega (arith, ap (λ d. d.place + d.bytes) same)
+          | inr other ↦ omega (arith, last.2 c other, more)
+        ],
+      )
+    ]
+
+last_in : (xs : List Block) (a : Block) → In a xs → (b : Block) × In b xs × ((c : Block) → In c xs → c.place + c.bytes ≤ b.place + b.bytes)
+last_in [] a i = absurd i
+last_in (x ∷ xs) a i = last_from xs x
+
+-- so the blocks of a pool have an end
+ends : (pool : List ℕ) (table base : ℕ) → IsPool pool table base → (end : ℕ) × IsEnd pool table end
+ends pool table base p =
+    let last = last_in (blocks_in pool table) (block_of pool table 0) (full_in pool table 0 (first_full pool table base p.sound)) in
+    let found = in_full pool table last.0 last.1 in (
+      last.0.place + last.0.bytes,
+      record {
+        most = λ r f. last.2 (block_of pool table r) (full_in pool table r f);
+        is = (found.0, found.1, ap (λ c. c.place + c.bytes) (sym found.2));
+      },
+    )
+
+-- where all end at or below a place up to which they leave no gap, the last one ends there
+pub packed_end : (pool : List ℕ) (table base place : ℕ) → IsPool pool table base → ((r : ℕ) → IsFull pool table r → (dope_row pool table r).place + block_bytes (dope_row pool table r) ≤ place) → place ≤ base + total (blocks_in pool table) → IsEndBelow pool table place place
+packed_end pool table base place p most packed =
+    let e = ends pool table base p in
+    let there : e.0 ≡ place = omega (arith, total_below pool table base e.0 p e.1, packed, most e.1.is.0 e.1.is.1, e.1.is.2) in
+    record {
+      most = λ r f _. most r f;
+      is = (e.1.is.0, e.1.is.1, omega (arith, e.1.is.2, there, e.1.is.1.some), e.1.is.2 ∙ there);
+    }
 
 -- no hole begins below the end
 pub no_hole_below : (pool : List ℕ) (table base end bytes q : ℕ) → IsPool pool table base → IsEnd pool table end → end ≡ base + total (blocks_in pool table) → 0 < bytes → base ≤ q → q < end → IsHole pool table q bytes → ⊥

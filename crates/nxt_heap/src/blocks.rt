@@ -10,11 +10,11 @@ ghost use Rattle.nxt_heap.specs.Lists.{any_free};
 ghost use Rattle.nxt_heap.specs.Moves.{holds_behind, MovesAtNeed, GrowsTable, NoneMoves};
 ghost use Rattle.nxt_heap.specs.declared.blocks.Places.{Places};
 ghost use Rattle.nxt_compact.specs.Steps.{moved_to};
-ghost use Rattle.nxt_heap.specs.Inside.Pool.{IsPool, IsEnd, AreFronts, IsHole, IsFit, IsRoom, AreBlocks, BlocksMove, MakesRoom, MayHave, HasMoved, IsListRow, Relists, HasLength, Frees, Takes, IsRefused, HasRow, AddsRow, Stores, lists_in, pool_at, row_bytes as bytes_in_row, words, no_row};
+ghost use Rattle.nxt_heap.specs.Inside.Pool.{IsPool, IsEnd, AreFronts, IsHole, IsOpenTo, IsEndBelow, IsFit, IsRoom, AreBlocks, BlocksMove, MakesRoom, MayHave, HasMoved, IsListRow, Relists, HasLength, Frees, Takes, IsRefused, HasRow, AddsRow, Stores, lists_in, pool_at, row_bytes as bytes_in_row, words, no_row};
 
 use crate::fronts::{NO_ROW, first_fit, first_front, last_end, note_all, word};
 use crate::passed::PoolPassed;
-use nxt_compact::{block_bytes, compact, move_block, open_gap};
+use nxt_compact::{block_bytes, move_block, open_gap};
 use nxt_rows::{DopeRow, NO_PLACE, free_row, get, set, take_row};
 use nxt_types::pool::{POOL_BYTES, ROW_BYTES, round4};
 
@@ -44,13 +44,13 @@ fn hole(pool: &[u8], fronts: &[u16], at: Places, bytes: u32) -> Option<u32>
     first_fit(fronts, pool, at.table, start, bytes)
 }
 
-/// Moves a row's block into a hole.
+/// Moves a row's block to a place where no other one has a byte.
 fn move_to(pool: &mut [u8], fronts: &mut [u16], at: &mut Places, row: u16, place: u32)
     requires blocks { AreBlocks pool.old fronts.old at.old }
     requires full { IsFull pool.old at.old.table row }
     requires above { at.old.base ≤ place }
     requires word { place % 4 ≡ 0 }
-    requires hole { IsHole pool.old at.old.table place (bytes_of_block (dope_row pool.old at.old.table row)) }
+    requires hole { IsOpenTo pool.old at.old.table row place (bytes_of_block (dope_row pool.old at.old.table row)) }
     ensures { BlocksMove pool.old fronts.old pool.new fronts.new at.old at.new (moved_to (dope_row pool.old at.old.table row).place place) }
 {
     let from = get(pool, at.table, row).place as u32;
@@ -89,8 +89,19 @@ pub fn settle(pool: &mut [u8], fronts: &mut [u16], at: &mut Places, k: u16) -> u
     if at.end == at.footprint {
         return 0;
     }
-    let settled = compact(pool, &mut at.table, at.base, k);
-    at.end = refresh(pool, fronts, at.table);
+    let mut settled = 0;
+    let mut low = at.base;
+    while settled < k {
+        let Some(row) = first_front(fronts, word(low), word(at.end)) else {
+            return settled;
+        };
+        let found = get(pool, at.table, row);
+        if low < found.place as u32 {
+            move_to(pool, fronts, at, row, low);
+            settled += 1;
+        }
+        low += block_bytes(found) as u32;
+    }
     settled
 }
 
@@ -121,6 +132,7 @@ fn refresh(pool: &[u8], fronts: &mut [u16], table: u32) -> u32
 
 /// Gives a row's block room for so many bytes, and gives the block's place, or where it is to stand if the row has none.
 /// Blocks move only at need.
+#[inline(always)]
 pub fn make_room(pool: &mut [u8], fronts: &mut [u16], at: &mut Places, row: u16, bytes: u32) -> u32
     requires blocks { AreBlocks pool.old fronts.old at.old }
     requires may { MayHave pool.old at.old.table at.old.base row bytes }
@@ -276,11 +288,27 @@ fn drop_bytes(pool: &mut [u8], fronts: &mut [u16], at: &mut Places, row: u16)
         let place = found.place as u32;
         fronts[word(place)] = NO_ROW;
         at.end = if place + block == at.end {
-            last_end(fronts, pool, at.table, place)
+            end_below(pool, fronts, *at, place)
         } else {
             at.end
         };
         at.footprint -= block;
+    }
+}
+
+/// Where the last block ends that begins below the place at which the last of all blocks began.
+fn end_below(pool: &[u8], fronts: &[u16], at: Places, place: u32) -> u32
+    requires pool { IsPool pool.now at.table at.base }
+    requires fronts { AreFronts pool.now at.table fronts.now }
+    requires below { place ≤ pool_size }
+    requires most { (r : ℕ) → IsFull pool.now at.table r → (dope_row pool.now at.table r).place + bytes_of_block (dope_row pool.now at.table r) ≤ place }
+    requires packed { at.end ≡ at.footprint → place ≤ at.base + total (blocks_in pool.now at.table) }
+    ensures { IsEndBelow pool.now at.table place result }
+{
+    if at.end == at.footprint {
+        place
+    } else {
+        last_end(fronts, pool, at.table, place)
     }
 }
 

@@ -1,12 +1,12 @@
 // Comparisons of lists.
 
-ghost use Rattle.std.specs.Prelude.{◌≡◌, ◌||◌, true, false, IfOk, IsSome};
+ghost use Rattle.std.specs.Prelude.{◌≡◌, ◌||◌, ℕ, true, false, IfOk, IsSome};
 ghost use Rattle.nxt_types.specs.Shapes.{is_number};
 ghost use Rattle.nxt_types.specs.OperandRules.{is_plain, are_alike};
 ghost use Rattle.nxt_types.specs.Arithmetic.{is_signed as signed_kind_of};
 ghost use Rattle.nxt_model.specs.Means.Effects.{element};
 ghost use Rattle.nxt_model.specs.Means.Numbers.{either_signed, holds as holds_of};
-ghost use Rattle.nxt_space.specs.Spots.{numbers_in_bytes};
+ghost use Rattle.nxt_space.specs.Spots.{IsListSpot, numbers_in_bytes};
 ghost use Rattle.nxt_space.specs.Variables.{AreSound, name_of, shape_of, value_of};
 ghost use Rattle.nxt_operands.specs.Numbers.{AreNumbers, numbers_in};
 ghost use Rattle.nxt_operands.specs.Operands.{given};
@@ -15,13 +15,14 @@ ghost use Rattle.nxt_ops.specs.Ops.{deciding_numbers};
 use crate::lists::either_has_signed_elements;
 use nxt_operands::lists::{count_in, word_in};
 use nxt_operands::reading::numbers_of;
-use nxt_space::Space;
+use nxt_space::{ListSpot, Space};
 use nxt_types::NoMemory;
 use nxt_types::kind::{Cmp, Kind};
 use nxt_types::numbers::{compares, is_signed, taken};
 use std::alloc::Global;
 
-/// Whether a comparison of two lists of numbers holds: the first place where they differ decides, or else their lengths.
+/// Whether a comparison of two lists of numbers holds, wherever their numbers stand: the first place where they differ decides,
+/// or else their lengths.
 pub fn holds(alloc: Global, space: &Space, cmp: Cmp, x: u16, y: u16) -> Result<bool, NoMemory>
     requires sound { AreSound space.now.vars }
     requires x { IsSome (name_of space.now.vars x) }
@@ -31,24 +32,19 @@ pub fn holds(alloc: Global, space: &Space, cmp: Cmp, x: u16, y: u16) -> Result<b
     requires fit { are_alike (shape_of space.now.vars x) (shape_of space.now.vars y) ≡ true }
     ensures { IfOk result (λ b. b ≡ holds_of cmp (given space.now.vars x) (given space.now.vars y)) }
 {
-    let (a, b) = deciding_at(alloc, space, x, y)?;
+    let (a, b) = deciding_apart(alloc, space, x, y)?;
     Ok(compares(cmp, a, b))
 }
 
-// The two numbers that decide a comparison of two lists of numbers.
-fn deciding_at(alloc: Global, space: &Space, x: u16, y: u16) -> Result<(i64, i64), NoMemory>
-    requires x { IsSome (name_of space.now.vars x) }
-    requires y { IsSome (name_of space.now.vars y) }
-    requires list_x { AreNumbers (value_of space.now.vars x) }
-    requires list_y { AreNumbers (value_of space.now.vars y) }
-    ensures { IfOk result (λ pair. pair ≡ deciding_numbers (either_signed (element (shape_of space.now.vars x)) (element (shape_of space.now.vars y))) (numbers_in (value_of space.now.vars x)) (numbers_in (value_of space.now.vars y))) }
+/// Whether a comparison of two lists of numbers holds that stand one behind another. It takes no memory.
+pub fn lists_hold(space: &Space, cmp: Cmp, x: ListSpot, y: ListSpot) -> bool
+    requires x { (i : ℕ) × IsListSpot space.now.vars i x }
+    requires y { (j : ℕ) × IsListSpot space.now.vars j y }
+    ensures { (i j : ℕ) → IsListSpot space.now.vars i x → IsListSpot space.now.vars j y → result ≡ holds_of cmp (given space.now.vars i) (given space.now.vars j) }
 {
-    if let (Some(a), Some(b)) = (space.list_spot(x), space.list_spot(y)) {
-        let (xs, ys) = (space.bytes(a), space.bytes(b));
-        let signed = either_kind_signed(a.kind(), b.kind());
-        return Ok(deciding_in_place(signed, a.kind(), xs, b.kind(), ys));
-    }
-    deciding_apart(alloc, space, x, y)
+    let signed = either_kind_signed(x.kind(), y.kind());
+    let (a, b) = deciding_in_place(signed, x.kind(), space.bytes(x), y.kind(), space.bytes(y));
+    compares(cmp, a, b)
 }
 
 // Whether one of two kinds is signed.

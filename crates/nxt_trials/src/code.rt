@@ -1,8 +1,8 @@
 // Code at the edges of the rules on clumps, statements and operands.
 
-ghost use Rattle.std.specs.Prelude.{◌≤◌};
+ghost use Rattle.std.specs.Prelude.{◌≡◌, ◌≤◌, [], ◌∷◌, IfOk};
 
-use nxt_code::{CodeFault, check_code};
+use nxt_code::{Code, CodeFault, check_code};
 use nxt_images::{
     ARRAY, CLUSTER, EMPTY, Image, MUTEX, NO_DEFAULT, SBYTE, SLONG, SWORD, Statement, UBYTE, ULONG,
     VOID, append, layout_of, words_of,
@@ -46,6 +46,44 @@ const VARIABLES: Image<'static> = Image {
     ..EMPTY
 };
 
+/// A program that is accepted.
+struct Program {
+    layout: Layout,
+}
+
+// With a function of its own the drop is proved once, and not at each end of a test.
+impl Drop for Program {
+    fn drop(self) {
+        let Program { layout: _ } = self;
+    }
+}
+
+fn accepted(alloc: Global, image: &Image) -> Result<Program, Fail> {
+    let layout = layout_of(alloc, image)?;
+    Ok(Program { layout })
+}
+
+// A clump that starts at a word and has so many dependents.
+fn clump_of(alloc: Global, start: u16, dependents: u8) -> Result<ClumpRecs, Fail>
+    ensures { IfOk result (λ clumps. clumps ≡ record { fire = 0; dependents = dependents; start = start } ∷ []) }
+{
+    let mut clumps = ClumpRecs::new(alloc);
+    clumps.push(ClumpRec {
+        fire: 0,
+        dependents,
+        start,
+    })?;
+    Ok(clumps)
+}
+
+fn bytes_of(alloc: Global, bytes: &[u8]) -> Result<Bytes, Fail>
+    ensures { IfOk result (λ all. all ≡ bytes.now) }
+{
+    let mut all = Bytes::new(alloc);
+    all.append(bytes)?;
+    Ok(all)
+}
+
 // Why code of one clump is refused, which starts at a word and has so many dependents, these.
 fn fault(
     alloc: Global,
@@ -54,17 +92,11 @@ fn fault(
     listed: &[u8],
     words: Words,
 ) -> Result<Option<CodeFault>, Fail> {
-    let mut clumps = ClumpRecs::new(alloc);
-    clumps.push(ClumpRec {
-        fire: 0,
-        dependents: u8::try_from(listed.len())?,
-        start,
-    })?;
-    let mut dependents = Bytes::new(alloc);
-    dependents.append(listed)?;
     if words.len() > 65535 {
         return Err("too many words".into());
     }
+    let clumps = clump_of(alloc, start, u8::try_from(listed.len())?)?;
+    let dependents = bytes_of(alloc, listed)?;
     Ok(check_code(alloc, toc, clumps, dependents, words).err())
 }
 
@@ -121,69 +153,96 @@ static CASES: [Case<'static>; 12] = [
     ),
 ];
 
-#[test]
-fn code_at_the_edges_of_the_rules(rt: HostRuntime) -> Result<(), Fail> {
-    let alloc = rt.alloc();
-    let layout = layout_of(alloc, &VARIABLES)?;
-    for (statements, behind, start, refused) in &CASES {
-        let mut words = words_of(alloc, statements)?;
-        words.append(behind)?;
-        let found = fault(alloc, layout.toc(), *start, &[], words)?;
-        assert_eq!(rt; found, *refused, "{statements:?}, {behind:?} from {start}");
+fn expect_fault(rt: &impl Abort, alloc: Global, toc: &Toc, case: &Case) -> Result<(), Fail> {
+    let (statements, behind, start, refused) = case;
+    let mut words = words_of(alloc, statements)?;
+    words.append(behind)?;
+    let found = fault(alloc, toc, *start, &[], words)?;
+    assert_eq!(rt; found, *refused, "{statements:?}, {behind:?} from {start}");
+    Ok(())
+}
+
+fn expect_faults(rt: &impl Abort, alloc: Global, toc: &Toc) -> Result<(), Fail> {
+    for case in &CASES {
+        expect_fault(rt, alloc, toc, case)?;
     }
     Ok(())
 }
 
 #[test]
-fn no_clump_is_refused(rt: HostRuntime) -> Result<(), Fail> {
-    let alloc = rt.alloc();
-    let layout = layout_of(alloc, &EMPTY)?;
-    let refused = check_code(
-        alloc,
-        layout.toc(),
-        ClumpRecs::new(alloc),
-        Bytes::new(alloc),
-        Words::new(alloc),
-    );
-    assert_eq!(rt; refused.err(), Some(CodeFault::ClumpCount(0)));
-    Ok(())
+fn code_at_the_edges_of_the_rules(rt: HostRuntime) -> Result<(), Fail> {
+    let program = accepted(rt.alloc(), &VARIABLES)?;
+    expect_faults(&rt, rt.alloc(), program.layout.toc())
+}
+
+// Why code without clumps is refused.
+fn fault_of_nothing(alloc: Global, toc: &Toc) -> Option<CodeFault> {
+    let clumps = ClumpRecs::new(alloc);
+    let dependents = Bytes::new(alloc);
+    let words = Words::new(alloc);
+    check_code(alloc, toc, clumps, dependents, words).err()
 }
 
 #[test]
-fn accepted_code_is_kept(rt: HostRuntime) -> Result<(), Fail> {
-    let alloc = rt.alloc();
-    let layout = layout_of(alloc, &EMPTY)?;
+fn no_clump_is_refused(rt: HostRuntime) -> Result<(), Fail> {
+    let program = accepted(rt.alloc(), &EMPTY)?;
+    let found = fault_of_nothing(rt.alloc(), program.layout.toc());
+    assert_eq!(rt; found, Some(CodeFault::ClumpCount(0)));
+    Ok(())
+}
+
+// A jump to itself, of a clump that is its own dependent.
+const OWN_JUMP: &[u16] = &[0x4025, 0x0000];
+
+fn own_dependent(alloc: Global, toc: &Toc) -> Result<Code, Fail> {
+    let mut words = Words::new(alloc);
+    words.append(OWN_JUMP)?;
+    if words.len() > 65535 {
+        return Err("too many words".into());
+    }
+    let clumps = clump_of(alloc, 0, 1)?;
+    let dependents = bytes_of(alloc, &[0])?;
+    Ok(check_code(alloc, toc, clumps, dependents, words)?)
+}
+
+fn expect_kept(rt: &impl Abort, code: &Code) {
     let clump = ClumpRec {
         fire: 0,
         dependents: 1,
         start: 0,
     };
-    let mut clumps = ClumpRecs::new(alloc);
-    clumps.push(clump)?;
-    let mut dependents = Bytes::new(alloc);
-    dependents.push(0)?;
-    let mut words = Words::new(alloc);
-    words.append(&[0x4025, 0x0000])?;
-    let code = check_code(alloc, layout.toc(), clumps, dependents, words)?;
-    assert_eq!(rt; code.words(), [0x4025, 0x0000].as_slice());
+    assert_eq!(rt; code.words(), OWN_JUMP);
     assert_eq!(rt; code.clumps().as_slice(), [clump].as_slice());
     assert_eq!(rt; code.dependents().as_slice(), [0].as_slice());
+}
+
+#[test]
+fn accepted_code_is_kept(rt: HostRuntime) -> Result<(), Fail> {
+    let program = accepted(rt.alloc(), &EMPTY)?;
+    let code = own_dependent(rt.alloc(), program.layout.toc())?;
+    expect_kept(&rt, &code);
     Ok(())
+}
+
+// Why a jump to itself is refused, whose clump has these dependents.
+fn fault_of_dependents(alloc: Global, toc: &Toc, listed: &[u8]) -> Result<Option<CodeFault>, Fail> {
+    let words = words_of(alloc, &[(Op::Jmp, Cmp::Lt, &[0])])?;
+    fault(alloc, toc, 0, listed, words)
 }
 
 #[test]
 fn a_dependent_names_a_clump(rt: HostRuntime) -> Result<(), Fail> {
-    let alloc = rt.alloc();
-    let layout = layout_of(alloc, &EMPTY)?;
-    let words = words_of(alloc, &[(Op::Jmp, Cmp::Lt, &[0])])?;
-    let refused = fault(alloc, layout.toc(), 0, &[0, 1], words)?;
+    let program = accepted(rt.alloc(), &EMPTY)?;
+    let refused = fault_of_dependents(rt.alloc(), program.layout.toc(), &[0, 1])?;
     assert_eq!(rt; refused, Some(CodeFault::Dependent(0, 1)));
     Ok(())
 }
 
-// Operations with operands that are right, and beside each a wrong one, or the same where every word is right. An
-// operation of as many operands as one likes has three.
-static ROWS: [(Op, [u16; 5], [u16; 5]); 45] = [
+/// An operation with operands that are right, and beside each a wrong one, or the same where every word is right. An
+/// operation of as many operands as one likes has three.
+type Row = (Op, [u16; 5], [u16; 5]);
+
+static ROWS: [Row; 45] = [
     (Op::Add, [0, 1, 0, 0, 0], [6, 4, 4, 0, 0]),
     (Op::Sub, [4, 4, 0, 0, 0], [7, 7, 7, 0, 0]),
     (Op::Neg, [0, 1, 0, 0, 0], [7, 4, 0, 0, 0]),
@@ -251,26 +310,44 @@ fn fault_of(alloc: Global, toc: &Toc, op: Op, operands: &[u16]) -> Result<Option
     fault(alloc, toc, 0, &[], words)
 }
 
-#[test]
-fn each_operand_is_of_its_class(rt: HostRuntime) -> Result<(), Fail> {
-    let alloc = rt.alloc();
-    let layout = layout_of(alloc, &VARIABLES)?;
-    let toc = layout.toc();
-    for (op, right, wrong) in &ROWS {
-        let count = count(*op);
-        assert_eq!(rt; fault_of(alloc, toc, *op, &right[..count])?, None, "{op:?}");
-        for k in 0..count {
-            if wrong[k] != right[k] {
-                let mut operands = *right;
-                operands[k] = wrong[k];
-                let refused = fault_of(alloc, toc, *op, &operands[..count])?;
-                assert_eq!(rt;
-                    refused,
-                    Some(CodeFault::Operand(0, k as u32 + 1)),
-                    "{op:?}, operand {k}"
-                );
-            }
+fn expect_operands(
+    rt: &impl Abort,
+    alloc: Global,
+    toc: &Toc,
+    op: Op,
+    operands: &[u16],
+    due: Option<CodeFault>,
+) -> Result<(), Fail> {
+    let found = fault_of(alloc, toc, op, operands)?;
+    assert_eq!(rt; found, due, "{op:?} {operands:?}");
+    Ok(())
+}
+
+// The right operands are accepted, and with each wrong one in turn they are not.
+fn expect_row(rt: &impl Abort, alloc: Global, toc: &Toc, row: &Row) -> Result<(), Fail> {
+    let (op, right, wrong) = row;
+    let count = count(*op);
+    expect_operands(rt, alloc, toc, *op, &right[..count], None)?;
+    for k in 0..count {
+        if wrong[k] != right[k] {
+            let mut operands = *right;
+            operands[k] = wrong[k];
+            let due = Some(CodeFault::Operand(0, k as u32 + 1));
+            expect_operands(rt, alloc, toc, *op, &operands[..count], due)?;
         }
     }
     Ok(())
+}
+
+fn expect_rows(rt: &impl Abort, alloc: Global, toc: &Toc) -> Result<(), Fail> {
+    for row in &ROWS {
+        expect_row(rt, alloc, toc, row)?;
+    }
+    Ok(())
+}
+
+#[test]
+fn each_operand_is_of_its_class(rt: HostRuntime) -> Result<(), Fail> {
+    let program = accepted(rt.alloc(), &VARIABLES)?;
+    expect_rows(&rt, rt.alloc(), program.layout.toc())
 }

@@ -1,11 +1,15 @@
 // Tables at the edges of the rules on entries and leaves.
 
+use crate::found::same;
 use nxt_images::{
-    ARRAY, CLUSTER, EMPTY, Entry, Image, MUTEX, NO_DEFAULT, UBYTE, ULONG, UWORD, VOID, parts_of,
+    ARRAY, CLUSTER, EMPTY, Entry, Image, MUTEX, NO_DEFAULT, UBYTE, ULONG, UWORD, VOID, layout_of,
+    parts_of,
 };
-use nxt_layout::{LayoutFault, check_layout};
+use nxt_layout::{Layout, LayoutFault, check_layout};
 use nxt_table::TableFault;
+use nxt_types::toc::Toc;
 use std::alloc::Global;
+use std::process::Abort;
 use std::test::Fail;
 
 /// A table, the static bytes, how many bytes of defaults there are, and why the file is refused.
@@ -73,6 +77,19 @@ const NINE: &[Entry] = &[
     (UBYTE, 0, 0),
 ];
 
+/// Eight of them.
+const EIGHT: &[Entry] = &[
+    (CLUSTER, 0, 1),
+    (CLUSTER, 0, 1),
+    (CLUSTER, 0, 1),
+    (CLUSTER, 0, 1),
+    (CLUSTER, 0, 1),
+    (CLUSTER, 0, 1),
+    (CLUSTER, 0, 1),
+    (CLUSTER, 0, 1),
+    (UBYTE, 0, 0),
+];
+
 static LEAVES: [Case<'static>; 7] = [
     (&[(ULONG, 0, 0), (UWORD, 0, 4)], 6, 6, None),
     (
@@ -111,48 +128,64 @@ fn fault_of(alloc: Global, case: &Case) -> Result<Option<LayoutFault>, Fail> {
     Ok(check_layout(alloc, parts).err())
 }
 
-#[test]
-fn types_at_their_edges(rt: HostRuntime) -> Result<(), Fail> {
-    for case in &TYPES {
-        assert_eq!(rt; fault_of(rt.alloc(), case)?, case.3, "{:?}", case.0);
-    }
+fn expect_fault(rt: &impl Abort, alloc: Global, case: &Case) -> Result<(), Fail> {
+    let found = fault_of(alloc, case)?;
+    assert_eq!(rt; found, case.3, "{:?}", case.0);
     Ok(())
 }
 
 #[test]
+fn types_at_their_edges(rt: HostRuntime) -> Result<(), Fail> {
+    for case in &TYPES {
+        expect_fault(&rt, rt.alloc(), case)?;
+    }
+    Ok(())
+}
+
+static DEPTHS: [Case<'static>; 2] = [
+    (EIGHT, 1, 1, None),
+    (NINE, 1, 1, Some(LayoutFault::Table(TableFault::Depth(9)))),
+];
+
+#[test]
 fn eight_clusters_around_a_number(rt: HostRuntime) -> Result<(), Fail> {
-    let eight = (&NINE[1..], 1, 1, None);
-    assert_eq!(rt; fault_of(rt.alloc(), &eight)?, None);
-    let nine = (NINE, 1, 1, None);
-    assert_eq!(rt;
-        fault_of(rt.alloc(), &nine)?,
-        Some(LayoutFault::Table(TableFault::Depth(9)))
-    );
+    for case in &DEPTHS {
+        expect_fault(&rt, rt.alloc(), case)?;
+    }
     Ok(())
 }
 
 #[test]
 fn leaves_at_their_edges(rt: HostRuntime) -> Result<(), Fail> {
     for case in &LEAVES {
-        assert_eq!(rt; fault_of(rt.alloc(), case)?, case.3, "{:?}", case.0);
+        expect_fault(&rt, rt.alloc(), case)?;
     }
+    Ok(())
+}
+
+const MUTEX_AND_BYTE: Image<'static> = Image {
+    entries: &[(MUTEX, 0, 0), (UBYTE, 0, 4)],
+    static_size: 5,
+    defaults: &[1, 2, 3, 4, 5],
+    ..EMPTY
+};
+
+fn expect_places(rt: &impl Abort, toc: &Toc) {
+    same(rt, toc.count(), 2, "the entries");
+    same(rt, toc.place(1), Some(4), "the place of the byte");
+}
+
+fn expect_mutex(rt: &impl Abort, alloc: Global, layout: &Layout) -> Result<(), Fail> {
+    assert_eq!(rt; layout.dataspace(), [0, 0, 0, 0, 5].as_slice());
+    same(rt, layout.footprint(), 20, "the footprint");
+    expect_places(rt, layout.toc());
+    let copied = layout.toc().copied(alloc)?;
+    expect_places(rt, &copied);
     Ok(())
 }
 
 #[test]
 fn mutex_takes_four_bytes_of_defaults(rt: HostRuntime) -> Result<(), Fail> {
-    let alloc = rt.alloc();
-    let image = Image {
-        entries: &[(MUTEX, 0, 0), (UBYTE, 0, 4)],
-        static_size: 5,
-        defaults: &[1, 2, 3, 4, 5],
-        ..EMPTY
-    };
-    let (layout, _code) = check_layout(alloc, parts_of(alloc, &image)?)?;
-    assert_eq!(rt; layout.dataspace(), [0, 0, 0, 0, 5].as_slice());
-    assert_eq!(rt; layout.footprint(), 20);
-    assert_eq!(rt; layout.toc().count(), 2);
-    assert_eq!(rt; layout.toc().place(1), Some(4));
-    assert_eq!(rt; layout.toc().copied(alloc)?.place(1), Some(4));
-    Ok(())
+    let layout = layout_of(rt.alloc(), &MUTEX_AND_BYTE)?;
+    expect_mutex(&rt, rt.alloc(), &layout)
 }

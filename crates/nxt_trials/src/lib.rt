@@ -11,6 +11,8 @@ mod edge;
 #[cfg(test)]
 mod files;
 #[cfg(test)]
+mod found;
+#[cfg(test)]
 mod instr;
 #[cfg(test)]
 mod layout;

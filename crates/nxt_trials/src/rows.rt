@@ -52,6 +52,18 @@ fn start_of<'a>(
     }
 }
 
+fn check<'a>(
+    rt: &impl Abort,
+    alloc: Global,
+    entries: &'a [Entry],
+    case: &Case<'a>,
+    zeros: u16,
+) -> Result<(), Fail> {
+    let start = start_of(alloc, entries, case, zeros)?;
+    assert_eq!(rt; start, case.3, "{:?} {:?}", case.0, case.1);
+    Ok(())
+}
+
 fn check_all<'a>(
     rt: &impl Abort,
     alloc: Global,
@@ -59,8 +71,7 @@ fn check_all<'a>(
     cases: &[Case<'a>],
 ) -> Result<(), Fail> {
     for case in cases {
-        let start = start_of(alloc, entries, case, 0)?;
-        assert_eq!(rt; start, case.3, "{:?} {:?}", case.0, case.1);
+        check(rt, alloc, entries, case, 0)?;
     }
     Ok(())
 }
@@ -292,16 +303,18 @@ fn lists_in_clusters(rt: HostRuntime) -> Result<(), Fail> {
     check_all(&rt, rt.alloc(), RECORDS, &LISTS_IN_CLUSTERS)
 }
 
+const FULL: Case<'static> = (&[1, 0], &[(2, 10, 2), (22, 1, 32744)], &[], Ok(32768));
+
+const TOO_FULL: Case<'static> = (
+    &[1, 0],
+    &[(2, 10, 2), (22, 1, 32745)],
+    &[],
+    Err(LayoutFault::PoolPassed(32772)),
+);
+
 // The list is zeros, as many as its row counts.
 #[test]
 fn lists_that_fill_the_pool(rt: HostRuntime) -> Result<(), Fail> {
-    for (count, start) in [
-        (32744, Ok(32768)),
-        (32745, Err(LayoutFault::PoolPassed(32772))),
-    ] {
-        let rows = [(2, 10, 2), (22, 1, count)];
-        let case: Case = (&[1, 0], &rows, &[], start);
-        assert_eq!(rt; start_of(rt.alloc(), LIST, &case, count)?, start);
-    }
-    Ok(())
+    check(&rt, rt.alloc(), LIST, &FULL, 32744)?;
+    check(&rt, rt.alloc(), LIST, &TOO_FULL, 32745)
 }

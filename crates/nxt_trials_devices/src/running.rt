@@ -1,5 +1,7 @@
 // A program that is run to its end, after what comes from outside.
 
+ghost use Rattle.std.specs.Prelude.{◌≤◌, IfOk};
+
 use nxt_images::{Image, Statement, file_of};
 use nxt_machine::Machine;
 use nxt_model::event::Event;
@@ -54,17 +56,53 @@ fn add_texts(lines: &[Line], into: &mut Bytes) -> Result<(), Fail> {
     Ok(())
 }
 
+// Runs so many bytecodes at most, and adds the texts of their lines.
+fn run_some(alloc: Global, machine: &mut Machine, most: u32, texts: &mut Bytes) -> Result<u32, Fail>
+    ensures most { IfOk result (λ n. n ≤ most) }
+    ensures some { 1 ≤ most → IfOk result (λ n. 1 ≤ n) }
+{
+    let mut lines = Lines::new(alloc);
+    let ran = machine.run(alloc, most, &mut lines)?;
+    add_texts(lines.as_slice(), texts)?;
+    Ok(ran)
+}
+
+fn run_all(alloc: Global, machine: &mut Machine, texts: &mut Bytes) -> Result<(), Fail> {
+    let mut left = BYTECODES;
+    while left > 0 {
+        left -= run_some(alloc, machine, left, texts)?;
+    }
+    Ok(())
+}
+
 // Runs bytecodes, and gives the texts of all lines.
 fn report(alloc: Global, machine: &mut Machine) -> Result<Bytes, Fail> {
     let mut texts = Bytes::new(alloc);
-    let mut left = BYTECODES;
-    while left > 0 {
-        let mut lines = Lines::new(alloc);
-        let ran = machine.run(alloc, left, &mut lines)?;
-        add_texts(lines.as_slice(), &mut texts)?;
-        left -= ran;
-    }
+    run_all(alloc, machine, &mut texts)?;
     Ok(texts)
+}
+
+fn expect_report(
+    rt: &impl Abort,
+    alloc: Global,
+    machine: &mut Machine,
+    lines: &str,
+    name: &str,
+) -> Result<(), Fail> {
+    let texts = report(alloc, machine)?;
+    let told = str::from_utf8(texts.as_slice()).unwrap_or("(no text)\n");
+    assert_eq!(rt; told, lines, "{name}");
+    Ok(())
+}
+
+// The flat form of the variable at an entry.
+fn gathered(rt: &impl Abort, alloc: Global, space: &Space, i: u16) -> Result<Flat, Fail> {
+    let named = space.shape(i).is_some();
+    assert!(rt; named, "no variable at {i}");
+    let path = Path::whole(alloc, i);
+    let mut found = Flat::new(alloc);
+    space.gather(&path, &mut found)?;
+    Ok(found)
 }
 
 fn expect(
@@ -75,10 +113,7 @@ fn expect(
     flat: &[i64],
     name: &str,
 ) -> Result<(), Fail> {
-    let named = space.shape(i).is_some();
-    assert!(rt; named, "{name}");
-    let mut found = Flat::new(alloc);
-    space.gather(&Path::whole(alloc, i), &mut found)?;
+    let found = gathered(rt, alloc, space, i)?;
     assert_eq!(rt; found.as_slice(), flat, "{name}: the entry {i}");
     Ok(())
 }
@@ -93,6 +128,37 @@ pub(crate) struct Due<'a> {
 /// A name, the statements of a program, what comes from outside first, and what is due.
 pub(crate) type Case<'a> = (&'a str, &'a [Statement<'a>], &'a [Outside], Due<'a>);
 
+fn expect_all(
+    rt: &impl Abort,
+    alloc: Global,
+    space: &Space,
+    after: &[(u16, &[i64])],
+    name: &str,
+) -> Result<(), Fail> {
+    for (i, flat) in after {
+        expect(rt, alloc, space, *i, flat, name)?;
+    }
+    Ok(())
+}
+
+fn take_all(machine: &mut Machine, events: &[Outside]) {
+    for event in events {
+        machine.take(&event.event());
+    }
+}
+
+// A machine goes on to its end, and has then told and stored what is due.
+fn ends_with(
+    rt: &impl Abort,
+    alloc: Global,
+    machine: &mut Machine,
+    due: &Due,
+    name: &str,
+) -> Result<(), Fail> {
+    expect_report(rt, alloc, machine, due.lines, name)?;
+    expect_all(rt, alloc, machine.space(), due.after, name)
+}
+
 // A program is run to its end, after these events.
 fn runs_to(
     rt: &impl Abort,
@@ -103,16 +169,8 @@ fn runs_to(
     due: &Due,
 ) -> Result<(), Fail> {
     let mut machine = machine_of(alloc, image)?;
-    for event in events {
-        machine.take(&event.event());
-    }
-    let texts = report(alloc, &mut machine)?;
-    let told = str::from_utf8(texts.as_slice()).unwrap_or("(no text)\n");
-    assert_eq!(rt; told, due.lines, "{name}");
-    for (i, flat) in due.after {
-        expect(rt, alloc, machine.space(), *i, flat, name)?;
-    }
-    Ok(())
+    take_all(&mut machine, events);
+    ends_with(rt, alloc, &mut machine, due, name)
 }
 
 /// Each program, which has this table, is run to its end, and ends as is due.

@@ -2,8 +2,14 @@
 
 use nxt_heap::{Heap, PoolPassed};
 use std::alloc::Global;
+use std::fmt::Debug;
 use std::process::Abort;
 use std::test::Fail;
+
+/// What was found is what is due.
+pub(crate) fn same<T: PartialEq + Debug + Drop>(rt: &impl Abort, found: T, due: T, what: &str) {
+    assert_eq!(rt; found, due, "{what}");
+}
 
 /// Gives a list another number of bytes; a row without a list counts as one that the pool doesn't hold.
 pub(crate) fn resize(
@@ -95,19 +101,30 @@ pub(crate) fn write_marks(
     row: u16,
     bytes: u32,
 ) -> Result<(), Fail> {
+    let marks = marks_of(alloc, row, bytes)?;
+    write(rt, heap, row, marks.as_slice());
+    Ok(())
+}
+
+// The marks of a list of so many bytes.
+fn marks_of(alloc: Global, row: u16, bytes: u32) -> Result<Vec<u8>, Fail> {
     let mut marks = Vec::new(alloc);
     for at in 0..bytes as usize {
         marks.push(mark(row, at))?;
     }
+    Ok(marks)
+}
+
+// Writes bytes to the front of a list.
+fn write(rt: &impl Abort, heap: &mut Heap, row: u16, bytes: &[u8]) {
     match heap.stride(row) {
         None => assert!(rt; false, "row {row} has no list"),
         Some(_) => {
             let len = heap.bytes_of(row).len();
-            assert!(rt; marks.len() <= len);
-            heap.write(row, 0, marks.as_slice());
+            assert!(rt; bytes.len() <= len);
+            heap.write(row, 0, bytes);
         }
     }
-    Ok(())
 }
 
 /// The list has that many bytes: its marks first, and then zeros.
@@ -117,14 +134,16 @@ pub(crate) fn expect_list(rt: &impl Abort, heap: &Heap, row: u16, marks: usize, 
         Some(_) => {
             let found = heap.bytes_of(row);
             assert_eq!(rt; found.len(), bytes, "bytes of row {row}");
-            for (at, &byte) in found.iter().enumerate() {
-                assert_eq!(rt;
-                    byte,
-                    if at < marks { mark(row, at) } else { 0 },
-                    "row {row} at {at}"
-                );
-            }
+            expect_marks(rt, found, row, marks);
         }
+    }
+}
+
+// So many bytes are the marks of a row's list, and the others are zeros.
+fn expect_marks(rt: &impl Abort, found: &[u8], row: u16, marks: usize) {
+    for (at, &byte) in found.iter().enumerate() {
+        let due = if at < marks { mark(row, at) } else { 0 };
+        assert_eq!(rt; byte, due, "row {row} at {at}");
     }
 }
 

@@ -23,23 +23,38 @@ pub(crate) fn filled(
     let rows = u16::try_from(lists.len())?;
     assert!(rt; rows < 3_000);
     let mut trial = Trial::new(rt, alloc, static_size, rows + 1)?;
+    fill(rt, alloc, &mut trial, lists)?;
+    Ok(trial)
+}
+
+// Adds lists of so many single bytes, which fill the rows from the first on.
+fn fill(rt: &impl Abort, alloc: Global, trial: &mut Trial, lists: &[u32]) -> Result<(), Fail> {
     let mut row = 0;
     for &bytes in lists {
-        assert!(rt; row < rows);
+        assert!(rt; row < u16::MAX);
         row += 1;
         trial.take(rt, alloc, New(1))?;
         trial.take(rt, alloc, Resize(row, bytes))?;
     }
-    trial.check(rt, alloc)?;
-    Ok(trial)
+    trial.check(rt, alloc)
+}
+
+// Takes the steps of a case, and compares the places at the end.
+fn run_case(rt: &impl Abort, alloc: Global, trial: &mut Trial, case: &Case) -> Result<(), Fail> {
+    let &(what, _, steps, places) = case;
+    trial.run(rt, alloc, steps)?;
+    trial.expect_places(rt, alloc, places, what)
+}
+
+fn check(rt: &impl Abort, alloc: Global, case: &Case) -> Result<(), Fail> {
+    let mut trial = filled(rt, alloc, 4, case.1)?;
+    run_case(rt, alloc, &mut trial, case)
 }
 
 /// Takes the steps of each case, with what is due after each, and compares the places at the end.
 pub(crate) fn check_all(rt: &impl Abort, alloc: Global, cases: &[Case]) -> Result<(), Fail> {
-    for &(what, lists, steps, places) in cases {
-        let mut trial = filled(rt, alloc, 4, lists)?;
-        trial.run(rt, alloc, steps)?;
-        trial.expect_places(rt, alloc, places, what)?;
+    for case in cases {
+        check(rt, alloc, case)?;
     }
     Ok(())
 }

@@ -12,30 +12,41 @@ impl Trial {
     /// Compares the heap with what is due: the table's place, the footprint, the blocks with gaps below them, the end of
     /// the last block, and each row with the bytes of its list.
     pub(crate) fn check(&self, rt: &impl Abort, alloc: Global) -> Result<(), Fail> {
-        let at = self.steps;
-        let table = self.heap.table_place();
-        assert_eq!(rt; table as u64, self.due.row(rt, 0).place, "table, step {at}");
-        let footprint = self.heap.footprint() as u64;
-        assert_eq!(rt; footprint, self.due.footprint(), "footprint, step {at}");
+        self.expect_sizes(rt);
         let unsettled = self.due.unsettled(rt, alloc)?;
-        assert_eq!(rt; self.heap.unsettled(), unsettled, "unsettled, step {at}");
+        self.same(rt, self.heap.unsettled(), unsettled, "unsettled");
         let dump = self.heap.dump(alloc)?;
-        assert_eq!(rt; dump.len() as u64, self.due.end(), "end, step {at}");
-        let rows = self.heap.row_count();
-        assert_eq!(rt; rows as usize, self.due.rows.len(), "rows, step {at}");
-        for row in 0..rows {
-            let due = self.due.row(rt, row);
-            assert_eq!(rt;
-                row_in(rt, dump.as_slice(), table, row),
-                due,
-                "row {row}, step {at}"
-            );
-            if row > 0 && due.stride > 0 {
-                let bytes = due.bytes as usize;
-                expect_list(rt, &self.heap, row, bytes, bytes);
-            }
-        }
+        self.expect_dump(rt, dump.as_slice());
         Ok(())
+    }
+
+    fn expect_sizes(&self, rt: &impl Abort) {
+        let table = self.heap.table_place() as u64;
+        self.same(rt, table, self.due.row(rt, 0).place, "table");
+        let footprint = self.heap.footprint() as u64;
+        self.same(rt, footprint, self.due.footprint(), "footprint");
+        let rows = self.heap.row_count() as usize;
+        self.same(rt, rows, self.due.rows.len(), "rows");
+    }
+
+    // The bytes end with the last block, and have the rows that are due.
+    fn expect_dump(&self, rt: &impl Abort, dump: &[u8]) {
+        self.same(rt, dump.len() as u64, self.due.end(), "end");
+        let table = self.heap.table_place();
+        for row in 0..self.heap.row_count() {
+            let due = self.due.row(rt, row);
+            let found = row_in(rt, dump, table, row);
+            assert_eq!(rt; found, due, "row {row}, step {}", self.steps);
+            self.expect_marked(rt, row, due);
+        }
+    }
+
+    // The list of a row, if it has one, holds its marks.
+    fn expect_marked(&self, rt: &impl Abort, row: u16, due: Row) {
+        if row > 0 && due.stride > 0 {
+            let bytes = due.bytes as usize;
+            expect_list(rt, &self.heap, row, bytes, bytes);
+        }
     }
 
     /// The block of a row is to stand at this place.
@@ -53,16 +64,20 @@ impl Trial {
         what: &str,
     ) -> Result<(), Fail> {
         let dump = self.heap.dump(alloc)?;
-        let table = self.heap.table_place();
         assert_eq!(rt; self.due.rows.len(), places.len(), "{what}");
-        let mut row = 0;
-        for &place in places {
-            let found = row_in(rt, dump.as_slice(), table, row);
-            assert_eq!(rt; found.place, place as u64, "{what}: row {row}");
-            assert!(rt; row < u16::MAX);
-            row += 1;
-        }
+        places_in(rt, dump.as_slice(), self.heap.table_place(), places, what);
         Ok(())
+    }
+}
+
+// The rows in the bytes of a heap tell these places.
+fn places_in(rt: &impl Abort, bytes: &[u8], table: u32, places: &[u16], what: &str) {
+    let mut row = 0;
+    for &place in places {
+        let found = row_in(rt, bytes, table, row);
+        assert_eq!(rt; found.place, place as u64, "{what}: row {row}");
+        assert!(rt; row < u16::MAX);
+        row += 1;
     }
 }
 

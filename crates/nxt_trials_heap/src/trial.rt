@@ -5,6 +5,7 @@ use crate::due::{Due, Row};
 use nxt_heap::{Heap, PoolPassed};
 use nxt_types::pool::{POOL_BYTES, round4};
 use std::alloc::Global;
+use std::fmt::Debug;
 use std::process::Abort;
 use std::test::Fail;
 
@@ -21,19 +22,36 @@ pub enum Step {
     Fill(u32),
     /// The list of a row is to get so many bytes, which the pool does not hold.
     Refused(u16, u32),
+    /// The newest list is to get so many bytes, which the pool does not hold.
+    RefusedNewest(u32),
     /// The list of a row goes.
     Free(u16),
     /// Up to so many blocks settle.
     Compact(u16),
+    /// The block of a row is to stand at this place.
+    At(u16, u64),
+    /// The block of the newest list is to stand at this place.
+    NewestAt(u64),
 }
 
 /// A heap, what it has to be, the row of the newest list, and how many steps were taken.
-#[derive(Drop)]
 pub struct Trial {
     pub heap: Heap,
     pub due: Due,
     pub newest: u16,
     pub steps: u32,
+}
+
+// With a function of its own the drop is proved once, and not at each end of a test.
+impl Drop for Trial {
+    fn drop(self) {
+        let Trial {
+            heap: _,
+            due: _,
+            newest: _,
+            steps: _,
+        } = self;
+    }
 }
 
 impl Trial {
@@ -72,51 +90,63 @@ impl Trial {
     pub(crate) fn take(&mut self, rt: &impl Abort, alloc: Global, step: Step) -> Result<(), Fail> {
         self.steps = self.steps.saturating_add(1);
         match step {
-            Step::New(stride) => self.add(rt, alloc, stride),
-            Step::Full => self.expect_full(rt),
-            Step::Resize(row, bytes) => self.resize(rt, alloc, row, bytes),
-            Step::Fill(bytes) => self.resize(rt, alloc, self.newest, bytes),
-            Step::Refused(row, bytes) => {
-                let footprint = self.due.footprint_with(rt, row, bytes);
-                let passed = resize(rt, &mut self.heap, row, bytes);
-                assert!(rt; footprint > POOL_BYTES, "step {}", self.steps);
-                assert_eq!(rt; passed, Err(PoolPassed(footprint)), "step {}", self.steps);
-                Ok(())
-            }
-            Step::Free(row) => {
-                free(rt, &mut self.heap, row);
-                self.due.set_row(rt, row, Row::empty(0));
-                Ok(())
-            }
-            Step::Compact(k) => {
-                let moved = self.due.compact(rt, alloc, k)?;
-                assert_eq!(rt; self.heap.compact(k), moved, "step {}", self.steps);
-                Ok(())
-            }
+            Step::New(stride) => self.add(rt, alloc, stride)?,
+            Step::Full => self.expect_full(rt)?,
+            Step::Resize(row, bytes) => self.resize(rt, alloc, row, bytes)?,
+            Step::Fill(bytes) => self.resize(rt, alloc, self.newest, bytes)?,
+            Step::Refused(row, bytes) => self.expect_refused(rt, row, bytes),
+            Step::RefusedNewest(bytes) => self.expect_refused(rt, self.newest, bytes),
+            Step::Free(row) => self.free(rt, row),
+            Step::Compact(k) => self.compact(rt, alloc, k)?,
+            Step::At(row, place) => self.expect_place(rt, row, place),
+            Step::NewestAt(place) => self.expect_place(rt, self.newest, place),
         }
+        Ok(())
+    }
+
+    /// What was found after a step is what is due.
+    pub(crate) fn same<T: PartialEq + Debug + Drop>(
+        &self,
+        rt: &impl Abort,
+        found: T,
+        due: T,
+        what: &str,
+    ) {
+        assert_eq!(rt; found, due, "{what}, step {}", self.steps);
     }
 
     // A new list takes a free row, or one that is added to the table.
     fn add(&mut self, rt: &impl Abort, alloc: Global, stride: u16) -> Result<(), Fail> {
+        let row = self.new_row(rt, stride);
+        if !self.due.has_free_row() {
+            self.add_row(rt, alloc, row)?;
+        }
+        self.same(rt, self.due.row(rt, row), Row::empty(0), "a free row");
+        self.due.set_row(rt, row, Row::empty(stride));
+        self.newest = row;
+        Ok(())
+    }
+
+    // The row of a new list, which the pool holds.
+    fn new_row(&mut self, rt: &impl Abort, stride: u16) -> u16 {
         assert!(rt; stride > 0);
-        let rows = u16::try_from(self.due.rows.len())?;
-        let row = match self.heap.new_array(stride) {
+        match self.heap.new_array(stride) {
             Ok(row) => row,
             Err(_) => {
                 assert!(rt; false, "no row for step {}", self.steps);
                 0
             }
-        };
-        if !self.due.has_free_row() {
-            assert_eq!(rt; row, rows, "step {}", self.steps);
-            let table = 10 * (rows as u32 + 1);
-            assert!(rt; self.due.footprint_with(rt, 0, table) <= POOL_BYTES);
-            self.due.resize(rt, alloc, 0, table)?;
-            self.due.rows.push(Row::empty(0))?;
         }
-        assert_eq!(rt; self.due.row(rt, row), Row::empty(0), "step {}", self.steps);
-        self.due.set_row(rt, row, Row::empty(stride));
-        self.newest = row;
+    }
+
+    // The table gets a row more, of that number.
+    fn add_row(&mut self, rt: &impl Abort, alloc: Global, row: u16) -> Result<(), Fail> {
+        let rows = u16::try_from(self.due.rows.len())?;
+        self.same(rt, row, rows, "the row of a new list");
+        let table = 10 * (rows as u32 + 1);
+        assert!(rt; self.due.footprint_with(rt, 0, table) <= POOL_BYTES);
+        self.due.resize(rt, alloc, 0, table)?;
+        self.due.rows.push(Row::empty(0))?;
         Ok(())
     }
 
@@ -126,23 +156,41 @@ impl Trial {
         let footprint = self.due.footprint_with(rt, 0, 10 * (rows as u32 + 1));
         assert!(rt; !self.due.has_free_row() && footprint > POOL_BYTES);
         let passed = self.heap.new_array(1);
-        assert_eq!(rt; passed, Err(PoolPassed(footprint)), "step {}", self.steps);
+        self.same(rt, passed, Err(PoolPassed(footprint)), "a full pool");
         Ok(())
+    }
+
+    // The pool does not hold so many bytes in a row's list.
+    fn expect_refused(&mut self, rt: &impl Abort, row: u16, bytes: u32) {
+        let footprint = self.due.footprint_with(rt, row, bytes);
+        assert!(rt; footprint > POOL_BYTES, "step {}", self.steps);
+        let passed = resize(rt, &mut self.heap, row, bytes);
+        self.same(rt, passed, Err(PoolPassed(footprint)), "a refused list");
     }
 
     // The list keeps its front, and then gets marks all over.
     fn resize(&mut self, rt: &impl Abort, alloc: Global, row: u16, bytes: u32) -> Result<(), Fail> {
         let had = self.due.row(rt, row);
-        assert!(rt;
-            self.due.footprint_with(rt, row, bytes) <= POOL_BYTES,
-            "step {}",
-            self.steps
-        );
+        let footprint = self.due.footprint_with(rt, row, bytes);
+        assert!(rt; footprint <= POOL_BYTES, "step {}", self.steps);
         let fits = resize(rt, &mut self.heap, row, bytes);
-        assert_eq!(rt; fits, Ok(()), "step {}", self.steps);
+        self.same(rt, fits, Ok(()), "a list that fits");
         self.due.resize(rt, alloc, row, bytes)?;
         let kept = had.bytes.min(bytes) as usize;
         expect_list(rt, &self.heap, row, kept, bytes as usize);
         write_marks(rt, alloc, &mut self.heap, row, bytes)
+    }
+
+    fn free(&mut self, rt: &impl Abort, row: u16) {
+        free(rt, &mut self.heap, row);
+        self.due.set_row(rt, row, Row::empty(0));
+    }
+
+    // As many blocks settle as are due.
+    fn compact(&mut self, rt: &impl Abort, alloc: Global, k: u16) -> Result<(), Fail> {
+        let due = self.due.compact(rt, alloc, k)?;
+        let moved = self.heap.compact(k);
+        self.same(rt, moved, due, "what moves");
+        Ok(())
     }
 }

@@ -7,6 +7,7 @@ use nxt_model::event::Event;
 use nxt_model::line::{Line, Lines, Stop};
 use nxt_tool::{Status, accept, nxt};
 use std::alloc::Global;
+use std::process::Abort;
 use std::test::Fail;
 
 /// How often is tried what the host refuses.
@@ -28,34 +29,93 @@ const NUMBERS: &[u8] =
     getin w, IN_3, ScaledValue\nsetout OUT_A, Power, 75\ngetout f, OUT_A, Power\ngettick n\nwait 1\n\
     jmp Again\nendt\n";
 
-// The words that assemble a text, if the host has the memory.
-fn words_of(alloc: Global) -> Option<Vec<Vec<u8>>> {
-    let mut words = Vec::new(alloc);
-    for text in ["asm", "a", "b"] {
-        words.push(text.as_bytes().to_vec(alloc).ok()?).ok()?;
+/// The words of a command.
+struct Words {
+    all: Vec<Vec<u8>>,
+}
+
+// With a function of its own a drop is proved once, and not at each end of a test.
+impl Drop for Words {
+    fn drop(self) {
+        let Words { all: _ } = self;
     }
+}
+
+impl Words {
+    fn add(&mut self, alloc: Global, text: &[u8]) -> Option<()> {
+        self.all.push(text.to_vec(alloc).ok()?).ok()
+    }
+
+    fn add_all(&mut self, alloc: Global) -> Option<()> {
+        self.add(alloc, b"asm")?;
+        self.add(alloc, b"a")?;
+        self.add(alloc, b"b")
+    }
+}
+
+// The words that assemble a text, if the host has the memory.
+fn words_of(alloc: Global) -> Option<Words> {
+    let mut words = Words {
+        all: Vec::new(alloc),
+    };
+    words.add_all(alloc)?;
     Some(words)
+}
+
+/// What the command reads and writes.
+struct Objects {
+    program: SureSource,
+    script: SureSource,
+    image: MemSink,
+    report: SureSink,
+}
+
+impl Drop for Objects {
+    fn drop(self) {
+        let Objects {
+            program: _,
+            script: _,
+            image: _,
+            report: _,
+        } = self;
+    }
+}
+
+fn objects_of(alloc: Global, text: &[u8]) -> Option<Objects> {
+    let program = SureSource::new(text.to_vec(alloc).ok()?);
+    Some(Objects {
+        program,
+        script: SureSource::new(Vec::new(alloc)),
+        image: MemSink::new(alloc, 4096, Vec::new(alloc)),
+        report: SureSink::new(),
+    })
+}
+
+fn status_of(alloc: Global, words: &[Vec<u8>], objects: &mut Objects) -> Status {
+    nxt(
+        alloc,
+        words,
+        &mut objects.program,
+        &mut objects.script,
+        &mut objects.image,
+        &mut objects.report,
+    )
+}
+
+// The machine of the image that was written, where the command succeeded.
+fn machine_in(alloc: Global, status: Status, objects: &Objects) -> Option<Machine> {
+    match status {
+        Status::Done => accept(alloc, objects.image.bytes(), 0).ok(),
+        _ => None,
+    }
 }
 
 // The machine of a text, if the host has the memory.
 fn made_of(alloc: Global, text: &[u8]) -> Option<Machine> {
     let words = words_of(alloc)?;
-    let mut program = SureSource::new(text.to_vec(alloc).ok()?);
-    let mut script = SureSource::new(Vec::new(alloc));
-    let mut image = MemSink::new(alloc, 4096, Vec::new(alloc));
-    let mut report = SureSink::new();
-    let status = nxt(
-        alloc,
-        words.as_slice(),
-        &mut program,
-        &mut script,
-        &mut image,
-        &mut report,
-    );
-    if status != Status::Done {
-        return None;
-    }
-    accept(alloc, image.bytes(), 0).ok()
+    let mut objects = objects_of(alloc, text)?;
+    let status = status_of(alloc, words.all.as_slice(), &mut objects);
+    machine_in(alloc, status, &objects)
 }
 
 // The machine of a text.
@@ -90,51 +150,83 @@ fn is_due(told: usize, line: &Line) -> bool {
     }
 }
 
+// The lines of a step are those that are due behind so many; gives how many there are then.
+fn expect_due(rt: &impl Abort, lines: &[Line], told: usize) -> usize {
+    let mut told = told;
+    for line in lines {
+        assert!(rt; is_due(told, line), "after {told} lines");
+        told = told.saturating_add(1);
+    }
+    told
+}
+
+// Runs a bytecode behind so many lines, and gives how many there are then.
+fn run_on(
+    rt: &impl Abort,
+    alloc: Global,
+    machine: &mut Machine,
+    told: usize,
+) -> Result<usize, Fail> {
+    let mut out = Lines::new(alloc);
+    run_one(alloc, machine, &mut out)?;
+    Ok(expect_due(rt, out.as_slice(), told))
+}
+
+fn run_all(rt: &impl Abort, alloc: Global, machine: &mut Machine) -> Result<(), Fail> {
+    let mut told = 0;
+    for _ in 0..20 {
+        told = run_on(rt, alloc, machine, told)?;
+    }
+    assert_eq!(rt; told, 2);
+    Ok(())
+}
+
 // After want of memory the same event is done as if nothing had been. Each line takes memory, since no list has room for it.
 #[test]
 fn nested_lists(rt: HostRuntime) -> Result<(), Fail> {
-    let alloc = rt.alloc();
-    let mut machine = machine_of(alloc, NESTED_LISTS)?;
-    let mut told: usize = 0;
-    for _ in 0..20 {
-        let mut out = Lines::new(alloc);
-        run_one(alloc, &mut machine, &mut out)?;
-        for line in out.as_slice() {
-            assert!(rt; is_due(told, line), "after {told} lines");
-            told = told.saturating_add(1);
-        }
+    let mut machine = machine_of(rt.alloc(), NESTED_LISTS)?;
+    run_all(&rt, rt.alloc(), &mut machine)
+}
+
+fn takes(rt: &impl Abort, alloc: Global, machine: &mut Machine, event: &Event, out: &mut Lines) {
+    assert!(rt; machine.event(alloc, event, out).is_ok());
+}
+
+fn take_each(rt: &impl Abort, alloc: Global, machine: &mut Machine, out: &mut Lines) {
+    takes(rt, alloc, machine, &Event::Bytecode, out);
+    takes(rt, alloc, machine, &Event::Compact(1), out);
+    takes(rt, alloc, machine, &Event::Bytecode, out);
+    takes(rt, alloc, machine, &Event::Tick(1), out);
+    takes(rt, alloc, machine, &Event::Bytecode, out);
+    takes(rt, alloc, machine, &Event::Reading(2, 500, 512, 60), out);
+    takes(rt, alloc, machine, &Event::Tacho(0, 75, 100, 50, -360), out);
+    takes(rt, alloc, machine, &Event::Button(3, 1, 1), out);
+    takes(rt, alloc, machine, &Event::Battery(7500), out);
+    takes(rt, alloc, machine, &Event::Random(-77), out);
+}
+
+fn take_many(
+    rt: &impl Abort,
+    alloc: Global,
+    machine: &mut Machine,
+    out: &mut Lines,
+) -> Result<(), Fail> {
+    for _ in 0..3 {
+        run_one(alloc, machine, out)?;
     }
-    assert_eq!(rt; told, 2);
+    assert_eq!(rt; machine.space().unsettled(), 1);
+    for _ in 0..100 {
+        take_each(rt, alloc, machine, out);
+    }
+    assert_eq!(rt; machine.space().unsettled(), 0);
+    assert!(rt; machine.stopped().is_none() && out.as_slice().is_empty());
     Ok(())
 }
 
 // No event but a bytecode on lists or with a line, a telegram or a dump takes memory.
 #[test]
 fn events_without_memory(rt: HostRuntime) -> Result<(), Fail> {
-    let alloc = rt.alloc();
-    let mut machine = machine_of(alloc, NUMBERS)?;
-    let mut out = Lines::new(alloc);
-    for _ in 0..3 {
-        run_one(alloc, &mut machine, &mut out)?;
-    }
-    assert_eq!(rt; machine.space().unsettled(), 1);
-    for _ in 0..100 {
-        for event in [
-            Event::Bytecode,
-            Event::Compact(1),
-            Event::Bytecode,
-            Event::Tick(1),
-            Event::Bytecode,
-            Event::Reading(2, 500, 512, 60),
-            Event::Tacho(0, 75, 100, 50, -360),
-            Event::Button(3, 1, 1),
-            Event::Battery(7500),
-            Event::Random(-77),
-        ] {
-            assert!(rt; machine.event(alloc, &event, &mut out).is_ok());
-        }
-    }
-    assert_eq!(rt; machine.space().unsettled(), 0);
-    assert!(rt; machine.stopped().is_none() && out.as_slice().is_empty());
-    Ok(())
+    let mut machine = machine_of(rt.alloc(), NUMBERS)?;
+    let mut out = Lines::new(rt.alloc());
+    take_many(&rt, rt.alloc(), &mut machine, &mut out)
 }

@@ -2,11 +2,10 @@
 // round4(static size) + round4(10 * rows) + round4(length * stride) for each list, those in lists included.
 
 ghost use Rattle.std.specs.Prelude.{◌≡◌, IfOk};
-ghost use Rattle.nxt_rxe.specs.declared.parts.Parts.{Parts};
-ghost use Rattle.nxt_layout.specs.Layouts.{IsLayout};
 
 mod calls;
 mod counting;
+mod found;
 mod inner;
 mod lists;
 mod moving;
@@ -14,22 +13,38 @@ mod pool;
 mod spots;
 
 use calls::{gather, length, set, store};
+use found::same;
 use nxt_images::{EMPTY, Image, NO_DEFAULT, SBYTE, SLONG, SWORD, UBYTE, ULONG, UWORD, layout_of};
 use nxt_layout::Layout;
 use nxt_space::{Flat, Path, PoolPassed, Space};
-use nxt_types::NoMemory;
 use nxt_types::toc::Toc;
 use std::alloc::Global;
 use std::process::Abort;
 use std::test::Fail;
 
-// The variables of a program at their start.
-fn started(alloc: Global, layout: &Layout) -> Result<Space, NoMemory>
-    requires { (p : Parts) × IsLayout p layout.now }
-    ensures { IfOk result (λ space. space.vars.shapes ≡ layout.now.shapes) }
+/// The variables of a program, and the layout that tells what they are.
+struct Program {
+    layout: Layout,
+    space: Space,
+}
+
+// With a function of its own the drop is proved once, and not at each end of a test.
+impl Drop for Program {
+    fn drop(self) {
+        let Program {
+            layout: _,
+            space: _,
+        } = self;
+    }
+}
+
+/// A program whose variables are at their start.
+fn started(alloc: Global, image: &Image) -> Result<Program, Fail>
+    ensures { IfOk result (λ program. program.layout.shapes ≡ program.space.vars.shapes) }
 {
-    let space = Space::new(alloc, layout)?;
-    Ok(space)
+    let layout = layout_of(alloc, image)?;
+    let space = Space::new(alloc, &layout)?;
+    Ok(Program { layout, space })
 }
 
 fn flat_of(alloc: Global, numbers: &[i64]) -> Result<Flat, Fail> {
@@ -58,6 +73,58 @@ struct Step<'a> {
     state: State<'a>,
 }
 
+// The part at a path has these numbers as its flat form.
+fn expect_flat(
+    rt: &impl Abort,
+    alloc: Global,
+    toc: &Toc,
+    space: &Space,
+    path: &Path,
+    flat: &[i64],
+) -> Result<(), Fail>
+    requires { toc.now.shapes ≡ space.now.vars.shapes }
+{
+    let mut found = Flat::new(alloc);
+    gather(rt, alloc, toc, space, path, &mut found)?;
+    same_flat(rt, found.as_slice(), flat, path.var);
+    Ok(())
+}
+
+fn same_flat(rt: &impl Abort, found: &[i64], due: &[i64], var: u16) {
+    assert_eq!(rt; found, due, "at {var}");
+}
+
+// The part at a path is as long as that.
+fn expect_length(
+    rt: &impl Abort,
+    alloc: Global,
+    toc: &Toc,
+    space: &Space,
+    path: &Path,
+    count: u32,
+) -> Result<(), Fail>
+    requires { toc.now.shapes ≡ space.now.vars.shapes }
+{
+    let found = length(rt, alloc, toc, space, path)?;
+    assert_eq!(rt; found, count, "at {}", path.var);
+    Ok(())
+}
+
+// The part at a path has this flat form and this length.
+fn expect_at(
+    rt: &impl Abort,
+    alloc: Global,
+    toc: &Toc,
+    space: &Space,
+    path: &Path,
+    part: &Part,
+) -> Result<(), Fail>
+    requires { toc.now.shapes ≡ space.now.vars.shapes }
+{
+    expect_flat(rt, alloc, toc, space, path, part.2)?;
+    expect_length(rt, alloc, toc, space, path, part.3)
+}
+
 fn expect_part(
     rt: &impl Abort,
     alloc: Global,
@@ -67,16 +134,9 @@ fn expect_part(
 ) -> Result<(), Fail>
     requires { toc.now.shapes ≡ space.now.vars.shapes }
 {
-    let (var, steps, flat, count) = part;
-    let path = Path {
-        var: *var,
-        steps: flat_of(alloc, steps)?,
-    };
-    let mut found = Flat::new(alloc);
-    gather(rt, alloc, toc, space, &path, &mut found)?;
-    assert_eq!(rt; found.as_slice(), *flat, "at {var}");
-    assert_eq!(rt; length(rt, alloc, toc, space, &path)?, *count, "at {var}");
-    Ok(())
+    let steps = flat_of(alloc, part.1)?;
+    let path = Path { var: part.0, steps };
+    expect_at(rt, alloc, toc, space, &path, part)
 }
 
 fn expect(
@@ -108,8 +168,12 @@ fn take(
 {
     let flat = flat_of(alloc, step.flat)?;
     let answer = store(rt, toc, space, step.at, &flat);
-    assert_eq!(rt; answer, step.answer, "{:?} at {}", step.flat, step.at);
+    expect_answer(rt, answer, step);
     expect(rt, alloc, toc, space, &step.state)
+}
+
+fn expect_answer(rt: &impl Abort, answer: Result<(), PoolPassed>, step: &Step) {
+    assert_eq!(rt; answer, step.answer, "{:?} at {}", step.flat, step.at);
 }
 
 // The variables start so, and do so again after the steps.
@@ -139,9 +203,9 @@ fn check(
     start: &State,
     steps: &[Step],
 ) -> Result<(), Fail> {
-    let layout = layout_of(alloc, image)?;
-    let mut space = started(alloc, &layout)?;
-    take_all(rt, alloc, layout.toc(), &mut space, start, steps)
+    let mut program = started(alloc, image)?;
+    let toc = program.layout.toc();
+    take_all(rt, alloc, toc, &mut program.space, start, steps)
 }
 
 const KINDS: Image<'static> = Image {
@@ -206,17 +270,19 @@ fn check_cuts(rt: &impl Abort, toc: &Toc, space: &mut Space, cuts: &[(u16, i64, 
     }
 }
 
+// There is no seventh number, and no block that could move.
+fn expect_no_more(rt: &impl Abort, space: &mut Space) {
+    same(rt, space.get(6), 0, "the seventh number");
+    same(rt, space.footprint(), 16 + 12, "the footprint");
+    same(rt, space.table_place(), 16, "the table's place");
+    same(rt, space.compact(9), 0, "what moves");
+    same(rt, space.unsettled(), 0, "what could move");
+}
+
 #[test]
 fn numbers_are_cut_to_their_kind(rt: HostRuntime) -> Result<(), Fail> {
-    let alloc = rt.alloc();
-    let layout = layout_of(alloc, &KINDS)?;
-    let toc = layout.toc();
-    let mut space = started(alloc, &layout)?;
-    check_cuts(&rt, toc, &mut space, &CUT);
-    assert_eq!(rt; space.get(6), 0);
-    assert_eq!(rt; space.footprint(), 16 + 12);
-    assert_eq!(rt; space.table_place(), 16);
-    assert_eq!(rt; space.compact(9), 0);
-    assert_eq!(rt; space.unsettled(), 0);
+    let mut program = started(rt.alloc(), &KINDS)?;
+    check_cuts(&rt, program.layout.toc(), &mut program.space, &CUT);
+    expect_no_more(&rt, &mut program.space);
     Ok(())
 }

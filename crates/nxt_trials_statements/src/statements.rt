@@ -70,22 +70,28 @@ fn reach(statement: &Statement) -> (usize, usize) {
 }
 
 // Adds statements of one word each: `acquire`, in its short form, of the mutex at entry 14.
-fn fill(alloc: Global, words: &mut Words, count: usize) -> Result<(), Fail> {
-    let filling = vec![in alloc; 0x290E_u16; count]?;
-    words.append(filling.as_slice())?;
+fn fill(words: &mut Words, count: usize) -> Result<(), Fail> {
+    for _ in 0..count {
+        words.push(0x290E)?;
+    }
     Ok(())
 }
 
-// The words of a program in which the statement lands on a statement where it jumps, and the word at which it begins.
-fn program_of(alloc: Global, statement: &Statement) -> Result<(Words, u16), Fail> {
+// Adds a program in which the statement lands on a statement where it jumps, and gives the word at which it begins.
+fn push_program(words: &mut Words, statement: &Statement) -> Result<u16, Fail> {
     let (back, ahead) = reach(statement);
-    let mut words = Words::new(alloc);
-    fill(alloc, &mut words, back)?;
+    fill(words, back)?;
     let at = u16::try_from(words.len())?;
-    append(&mut words, statement)?;
+    append(words, statement)?;
     let length = words.len().saturating_sub(back);
-    fill(alloc, &mut words, ahead.saturating_sub(length))?;
-    append(&mut words, &(Op::Finclump, Cmp::Lt, &[LEFT_OUT, LEFT_OUT]))?;
+    fill(words, ahead.saturating_sub(length))?;
+    append(words, &(Op::Finclump, Cmp::Lt, &[LEFT_OUT, LEFT_OUT]))?;
+    Ok(at)
+}
+
+fn program_of(alloc: Global, statement: &Statement) -> Result<(Words, u16), Fail> {
+    let mut words = Words::new(alloc);
+    let at = push_program(&mut words, statement)?;
     Ok((words, at))
 }
 
@@ -116,6 +122,19 @@ fn fit_statement(
     }
 }
 
+// The statement in a program of its own, if that is accepted.
+fn fit_program(
+    alloc: Global,
+    toc: &Toc,
+    statement: &Statement,
+) -> Result<Option<(Instr, Code)>, Fail>
+    ensures whole { IfOk result (λ found. IfSome found (λ f. IsWhole f.1.words f.0)) }
+    ensures fit { IfOk result (λ found. IfSome found (λ f. AreFit toc.now.shapes (statement_of f.0 f.1.words))) }
+{
+    let (words, at) = program_of(alloc, statement)?;
+    fit_statement(alloc, toc, words, at)
+}
+
 fn has_number(toc: &Toc, i: u16) -> bool
     ensures { (s : Members) → toc.now.shapes ≡ s → IsTrue result → IsTrue (is_number (shape_by (name_among s 0 i))) }
 {
@@ -143,6 +162,18 @@ fn set_all(rt: &impl Abort, toc: &Toc, space: &mut Space, before: &[(u16, i64)])
     }
 }
 
+// The flat form of the variable at an entry.
+fn gathered(rt: &impl Abort, alloc: Global, toc: &Toc, space: &Space, i: u16) -> Result<Flat, Fail>
+    requires { toc.now.shapes ≡ space.now.vars.shapes }
+{
+    let named = toc.shape(i).is_some();
+    assert!(rt; named);
+    let path = Path::whole(alloc, i);
+    let mut found = Flat::new(alloc);
+    space.gather(&path, &mut found)?;
+    Ok(found)
+}
+
 fn expect(
     rt: &impl Abort,
     alloc: Global,
@@ -154,11 +185,7 @@ fn expect(
 ) -> Result<(), Fail>
     requires { toc.now.shapes ≡ space.now.vars.shapes }
 {
-    let named = toc.shape(i).is_some();
-    assert!(rt; named);
-    let path = Path::whole(alloc, i);
-    let mut found = Flat::new(alloc);
-    space.gather(&path, &mut found)?;
+    let found = gathered(rt, alloc, toc, space, i)?;
     assert_eq!(rt; found.as_slice(), flat, "at {i} after {steps:?}");
     Ok(())
 }
@@ -202,6 +229,36 @@ fn run(alloc: Global, i: &Instr, words: &[u16], toc: &Toc, space: &mut Space) ->
 }
 
 // A statement that is refused leaves the pool as it is.
+fn expect_answer(rt: &impl Abort, answer: Answer, before: u32, after: u32, step: &Step) {
+    let (statement, wanted) = step;
+    assert_eq!(rt; answer, *wanted, "{statement:?}");
+    if answer.is_err() {
+        assert_eq!(rt; after, before, "{statement:?}");
+    }
+}
+
+fn run_fit(
+    rt: &impl Abort,
+    alloc: Global,
+    i: &Instr,
+    code: &Code,
+    toc: &Toc,
+    space: &mut Space,
+    step: &Step,
+)
+    requires whole { IsWhole code.now.words i.now }
+    requires entries { toc.now.entries ≡ space.old.vars.entries }
+    requires shapes { toc.now.shapes ≡ space.old.vars.shapes }
+    requires fit { AreFit toc.now.shapes (statement_of i.now code.now.words) }
+    ensures entries { space.new.vars.entries ≡ space.old.vars.entries }
+    ensures shapes { space.new.vars.shapes ≡ space.old.vars.shapes }
+{
+    space.is_sound();
+    let before = space.footprint();
+    let answer = run(alloc, i, code.words(), toc, space);
+    expect_answer(rt, answer, before, space.footprint(), step);
+}
+
 fn take(
     rt: &impl Abort,
     alloc: Global,
@@ -214,18 +271,10 @@ fn take(
     ensures entries { space.new.vars.entries ≡ space.old.vars.entries }
     ensures shapes { space.new.vars.shapes ≡ space.old.vars.shapes }
 {
-    let (statement, wanted) = step;
-    space.is_sound();
-    let footprint = space.footprint();
-    let (words, at) = program_of(alloc, statement)?;
-    let found = fit_statement(alloc, toc, words, at)?;
-    assert!(rt; found.is_some(), "{statement:?}");
+    let found = fit_program(alloc, toc, &step.0)?;
+    assert!(rt; found.is_some(), "{:?}", step.0);
     if let Some((i, code)) = found {
-        let answer = run(alloc, &i, code.words(), toc, space);
-        assert_eq!(rt; answer, *wanted, "{statement:?}");
-        if answer.is_err() {
-            assert_eq!(rt; space.footprint(), footprint, "{statement:?}");
-        }
+        run_fit(rt, alloc, &i, &code, toc, space, step);
     }
     Ok(())
 }
@@ -247,14 +296,27 @@ fn take_all(
     Ok(())
 }
 
+fn play(
+    rt: &impl Abort,
+    alloc: Global,
+    toc: &Toc,
+    space: &mut Space,
+    story: &Story,
+) -> Result<(), Fail>
+    requires entries { toc.now.entries ≡ space.old.vars.entries }
+    requires shapes { toc.now.shapes ≡ space.old.vars.shapes }
+{
+    set_all(rt, toc, space, story.before);
+    take_all(rt, alloc, toc, space, story.steps)?;
+    expect_all(rt, alloc, toc, space, story.after, story.steps)
+}
+
 fn check(rt: &impl Abort, alloc: Global, layout: &Layout, story: &Story) -> Result<(), Fail>
     requires { (p : Parts) × IsLayout p layout.now }
 {
     let toc = layout.toc();
     let mut space = Space::new(alloc, layout)?;
-    set_all(rt, toc, &mut space, story.before);
-    take_all(rt, alloc, toc, &mut space, story.steps)?;
-    expect_all(rt, alloc, toc, &space, story.after, story.steps)
+    play(rt, alloc, toc, &mut space, story)
 }
 
 /// Runs each story on the variables of a program at their start.
@@ -271,6 +333,19 @@ pub(crate) fn check_all(
     Ok(())
 }
 
+fn check_case(rt: &impl Abort, alloc: Global, layout: &Layout, case: &Case) -> Result<(), Fail>
+    requires { (p : Parts) × IsLayout p layout.now }
+{
+    let (statement, before, after, answer) = case;
+    let steps = [(*statement, *answer)];
+    let story = Story {
+        before,
+        steps: &steps,
+        after,
+    };
+    check(rt, alloc, layout, &story)
+}
+
 /// Runs the statement of each case on the variables of a program at their start.
 pub(crate) fn check_cases(
     rt: &impl Abort,
@@ -279,14 +354,8 @@ pub(crate) fn check_cases(
     cases: &[Case],
 ) -> Result<(), Fail> {
     let layout = layout_of(alloc, image)?;
-    for (statement, before, after, answer) in cases {
-        let steps = [(*statement, *answer)];
-        let story = Story {
-            before,
-            steps: &steps,
-            after,
-        };
-        check(rt, alloc, &layout, &story)?;
+    for case in cases {
+        check_case(rt, alloc, &layout, case)?;
     }
     Ok(())
 }

@@ -13,7 +13,7 @@ use Rattle.nxt_blocks.proofs.Laws.Settling.{settled-le, settled_yes, settled_no,
 use Rattle.nxt_blocks.proofs.Laws.Lowest.{unsettled_none, unsettled_more, unsettled_all, same_place}
 use Rattle.nxt_blocks.proofs.Laws.Walking.{IsLowest, walk-packed, walk-next, walk-unsettled, walk-settled, walk-all}
 use Rattle.nxt_compact.specs.Pools.{block_bytes, block_of, blocks_in, IsSound, IsFull, Moves, row_at, Compacts}
-use Rattle.nxt_compact.proofs.Next.{IsNext}
+use Rattle.nxt_compact.proofs.Laws.Next.{IsNext}
 use Rattle.nxt_compact.specs.Steps.{IsMovable, moved_to}
 use Rattle.nxt_compact.proofs.Laws.Shifted.{bytes_of_table}
 use Rattle.nxt_compact.proofs.Laws.Moving.{row_stays, row_moves}

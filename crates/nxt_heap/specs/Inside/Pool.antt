@@ -133,6 +133,11 @@ pub record IsHole (pool : List ℕ) (table at bytes : ℕ) : Type 0 where
   pub within : at + bytes ≤ length pool
   pub others : (q : ℕ) → IsFull pool table q → IsApart (record { place = at; bytes = bytes }) (block_of pool table q)
 
+-- the same, but for the bytes of one row's own block
+pub record IsOpenTo (pool : List ℕ) (table row at bytes : ℕ) : Type 0 where
+  pub within : at + bytes ≤ length pool
+  pub others : (q : ℕ) → IsFull pool table q → q ≢ row → IsApart (record { place = at; bytes = bytes }) (block_of pool table q)
+
 -- no block reaches over a place
 abbrev pub IsClean : List ℕ → ℕ → ℕ → Type 0
 IsClean pool table at = (q : ℕ) → IsFull pool table q → (dope_row pool table q).place < at → (dope_row pool table q).place + block_bytes (dope_row pool table q) ≤ at

@@ -1,10 +1,9 @@
 -- A statement that computes, whose operands are numbers, is on numbers alone.
-use Rattle.std.proofs.Common.{◌≡◌, ℕ, Bool, true, false, ◌&&◌, List, [], ◌∷◌, map, Option, Some, None, refl, sym, ap, ◌∙◌}
+use Rattle.std.proofs.Common.{◌≡◌, ℕ, Bool, true, false, ◌&&◌, [], map, Some, refl, sym, ap, ◌∙◌}
 use Rattle.std.specs.List.{list_all}
 use Rattle.nxt_types.specs.Names.{named}
 use Rattle.nxt_types.specs.OperandRules.{AreFit}
 use Rattle.nxt_types.specs.Shapes.{is_number}
-use Rattle.nxt_types.specs.Statements.{statement_of}
 use Rattle.nxt_types.specs.declared.instr.Instr.{Instr}
 use Rattle.nxt_types.specs.declared.instr.Op.{Op}
 use Rattle.nxt_types.specs.declared.instr.Op.TheVariants as ops

@@ -3,8 +3,9 @@
 ghost use Rattle.std.specs.Prelude.{◌≡◌};
 
 use super::calls::lent;
+use super::found::same;
 use super::{State, Step, check, started, take};
-use nxt_images::{ARRAY, CLUSTER, EMPTY, Image, NO_DEFAULT, SLONG, UBYTE, UWORD, layout_of};
+use nxt_images::{ARRAY, CLUSTER, EMPTY, Image, NO_DEFAULT, SLONG, UBYTE, UWORD};
 use nxt_space::Space;
 use nxt_types::toc::Toc;
 use std::alloc::Global;
@@ -75,19 +76,24 @@ fn expect_bytes(
     requires { toc.now.shapes ≡ space.now.vars.shapes }
 {
     let found = lent(rt, alloc, toc, space, 0)?;
-    assert_eq!(rt; found.as_slice(), bytes);
+    same(rt, found.as_slice(), bytes, "the bytes that are lent");
     Ok(())
+}
+
+// The bytes of the file, and those that are stored over them.
+fn expect_lent(rt: &impl Abort, alloc: Global, toc: &Toc, space: &mut Space) -> Result<(), Fail>
+    requires { toc.now.shapes ≡ space.old.vars.shapes }
+{
+    expect_bytes(rt, alloc, toc, space, b"ab\0")?;
+    take(rt, alloc, toc, space, &TEXTS[0])?;
+    expect_bytes(rt, alloc, toc, space, &[1, 2, 3, 4, 255])
 }
 
 #[test]
 fn a_list_lends_its_bytes(rt: HostRuntime) -> Result<(), Fail> {
-    let alloc = rt.alloc();
-    let layout = layout_of(alloc, &LETTERS)?;
-    let toc = layout.toc();
-    let mut space = started(alloc, &layout)?;
-    expect_bytes(&rt, alloc, toc, &space, b"ab\0")?;
-    take(&rt, alloc, toc, &mut space, &TEXTS[0])?;
-    expect_bytes(&rt, alloc, toc, &space, &[1, 2, 3, 4, 255])
+    let mut program = started(rt.alloc(), &LETTERS)?;
+    let toc = program.layout.toc();
+    expect_lent(&rt, rt.alloc(), toc, &mut program.space)
 }
 
 /// A list of lists of bytes, [[5], [7, 8, 9]]: row 1 has the numbers of rows 3 and 2, which are 3 bytes apart, and the bytes

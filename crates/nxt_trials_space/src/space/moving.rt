@@ -2,9 +2,10 @@
 
 ghost use Rattle.std.specs.Prelude.{◌≡◌, ◌<◌, ◌^◌};
 
-use super::calls::{gather, store};
-use super::{flat_of, started};
-use nxt_images::{ARRAY, EMPTY, Image, NO_DEFAULT, SLONG, UBYTE, layout_of};
+use super::calls::store;
+use super::found::same;
+use super::{expect_flat, flat_of, started};
+use nxt_images::{ARRAY, EMPTY, Image, NO_DEFAULT, SLONG, UBYTE};
 use nxt_space::{Flat, Path, Space};
 use nxt_types::toc::Toc;
 use std::alloc::Global;
@@ -94,14 +95,43 @@ fn expect_value(
 ) -> Result<(), Fail>
     requires { toc.now.shapes ≡ space.now.vars.shapes }
 {
-    let path = Path {
-        var,
-        steps: Flat::new(alloc),
-    };
-    let mut found = Flat::new(alloc);
-    gather(rt, alloc, toc, space, &path, &mut found)?;
-    assert_eq!(rt; read.as_slice(), found.as_slice(), "at {var}");
-    Ok(())
+    let path = Path::whole(alloc, var);
+    expect_flat(rt, alloc, toc, space, &path, read.as_slice())
+}
+
+// The dump has the value of the list of lists.
+fn expect_names(
+    rt: &impl Abort,
+    alloc: Global,
+    toc: &Toc,
+    space: &Space,
+    dump: &Dump,
+) -> Result<(), Fail>
+    requires { toc.now.shapes ≡ space.now.vars.shapes }
+{
+    let mut names = Flat::new(alloc);
+    dump.push_lists(dump.word(0), &mut names)?;
+    expect_value(rt, alloc, toc, space, NAMES, &names)
+}
+
+// The dump has the value of the list of bytes.
+fn expect_text(
+    rt: &impl Abort,
+    alloc: Global,
+    toc: &Toc,
+    space: &Space,
+    dump: &Dump,
+) -> Result<(), Fail>
+    requires { toc.now.shapes ≡ space.now.vars.shapes }
+{
+    let mut text = Flat::new(alloc);
+    dump.push_bytes(dump.word(2), &mut text)?;
+    expect_value(rt, alloc, toc, space, TEXT, &text)
+}
+
+fn expect_table(rt: &impl Abort, space: &Space, dump: &Dump) {
+    assert_eq!(rt; dump.row(0, 0), dump.table);
+    assert_eq!(rt; dump.row(0, 2), usize::from(space.row_count()));
 }
 
 // The dump has both lists' values, and its first row is the table's.
@@ -109,19 +139,25 @@ fn expect_dump(rt: &impl Abort, alloc: Global, toc: &Toc, space: &Space) -> Resu
     requires { toc.now.shapes ≡ space.now.vars.shapes }
 {
     let bytes = space.dump(alloc)?;
+    expect_bytes(rt, alloc, toc, space, bytes.as_slice())
+}
+
+fn expect_bytes(
+    rt: &impl Abort,
+    alloc: Global,
+    toc: &Toc,
+    space: &Space,
+    bytes: &[u8],
+) -> Result<(), Fail>
+    requires { toc.now.shapes ≡ space.now.vars.shapes }
+{
     let dump = Dump {
-        bytes: bytes.as_slice(),
+        bytes,
         table: space.table_place() as usize,
     };
-    let mut names = Flat::new(alloc);
-    dump.push_lists(dump.word(0), &mut names)?;
-    expect_value(rt, alloc, toc, space, NAMES, &names)?;
-    let mut text = Flat::new(alloc);
-    dump.push_bytes(dump.word(2), &mut text)?;
-    expect_value(rt, alloc, toc, space, TEXT, &text)?;
-    assert_eq!(rt; dump.row(0, 0), dump.table);
-    assert_eq!(rt; dump.row(0, 2), usize::from(space.row_count()));
-    Ok(())
+    expect_table(rt, space, &dump);
+    expect_names(rt, alloc, toc, space, &dump)?;
+    expect_text(rt, alloc, toc, space, &dump)
 }
 
 // ---- steps
@@ -139,8 +175,10 @@ fn compact(rt: &impl Abort, space: &mut Space, k: u16)
 {
     let unsettled = space.unsettled();
     let moved = space.compact(k);
-    assert_eq!(rt; moved, k.min(unsettled), "of {unsettled}");
-    assert_eq!(rt; space.unsettled(), unsettled.wrapping_sub(moved));
+    let due = k.min(unsettled);
+    same(rt, moved, due, "what moves");
+    let left = unsettled.wrapping_sub(moved);
+    same(rt, space.unsettled(), left, "what could move");
 }
 
 fn take(
@@ -155,8 +193,7 @@ fn take(
 {
     match step {
         Step::Store(var, flat) => {
-            let answer = store(rt, toc, space, *var, flat);
-            assert_eq!(rt; answer, Ok(()));
+            same(rt, store(rt, toc, space, *var, flat), Ok(()), "the store");
             expect_dump(rt, alloc, toc, space)
         }
         Step::Compact(k) => {
@@ -177,23 +214,45 @@ fn lists_without_bytes(alloc: Global, count: u8) -> Result<Flat, Fail> {
     Ok(flat)
 }
 
+fn store_lists(
+    rt: &impl Abort,
+    alloc: Global,
+    toc: &Toc,
+    space: &mut Space,
+    count: u8,
+) -> Result<(), Fail>
+    requires { toc.now.shapes ≡ space.old.vars.shapes }
+    ensures { space.new.vars.shapes ≡ space.old.vars.shapes }
+{
+    let flat = lists_without_bytes(alloc, count)?;
+    let step = Step::Store(NAMES, flat);
+    take(rt, alloc, toc, space, &step)
+}
+
+fn expect_settled(rt: &impl Abort, alloc: Global, space: &Space) -> Result<(), Fail> {
+    same(rt, space.table_place(), 12, "the table's place");
+    same(rt, space.row_count(), 103, "the rows");
+    same(rt, space.unsettled(), 0, "what could move");
+    let dump = space.dump(alloc)?;
+    assert_eq!(rt; dump.as_slice().len(), 1_044);
+    Ok(())
+}
+
+fn come_and_go(rt: &impl Abort, alloc: Global, toc: &Toc, space: &mut Space) -> Result<(), Fail>
+    requires { toc.now.shapes ≡ space.old.vars.shapes }
+{
+    store_lists(rt, alloc, toc, space, 100)?;
+    store_lists(rt, alloc, toc, space, 0)?;
+    take(rt, alloc, toc, space, &Step::Compact(2))?;
+    expect_settled(rt, alloc, space)
+}
+
 // The table has grown to 103 rows of 1,030 bytes, and once two blocks had leave to move it stands right above the static bytes.
 #[test]
 fn a_hundred_inner_lists_come_and_go(rt: HostRuntime) -> Result<(), Fail> {
-    let alloc = rt.alloc();
-    let layout = layout_of(alloc, &LISTS)?;
-    let toc = layout.toc();
-    let mut space = started(alloc, &layout)?;
-    for count in [100, 0] {
-        let flat = lists_without_bytes(alloc, count)?;
-        take(&rt, alloc, toc, &mut space, &Step::Store(NAMES, flat))?;
-    }
-    take(&rt, alloc, toc, &mut space, &Step::Compact(2))?;
-    assert_eq!(&rt; space.table_place(), 12);
-    assert_eq!(&rt; space.row_count(), 103);
-    assert_eq!(&rt; space.unsettled(), 0);
-    assert_eq!(&rt; space.dump(alloc)?.as_slice().len(), 1_044);
-    Ok(())
+    let mut program = started(rt.alloc(), &LISTS)?;
+    let toc = program.layout.toc();
+    come_and_go(&rt, rt.alloc(), toc, &mut program.space)
 }
 
 // ---- any order
@@ -244,21 +303,49 @@ impl Drawn {
     }
 }
 
+fn take_drawn(
+    rt: &impl Abort,
+    alloc: Global,
+    toc: &Toc,
+    space: &mut Space,
+    drawn: &mut Drawn,
+) -> Result<(), Fail>
+    requires { toc.now.shapes ≡ space.old.vars.shapes }
+    ensures { space.new.vars.shapes ≡ space.old.vars.shapes }
+{
+    let step = drawn.step(alloc)?;
+    take(rt, alloc, toc, space, &step)
+}
+
+// Takes many steps, and starts anew.
+fn take_many(
+    rt: &impl Abort,
+    alloc: Global,
+    toc: &Toc,
+    space: &mut Space,
+    seed: u32,
+) -> Result<(), Fail>
+    requires { toc.now.shapes ≡ space.old.vars.shapes }
+{
+    let mut drawn = Drawn(seed);
+    for _ in 0..60 {
+        take_drawn(rt, alloc, toc, space, &mut drawn)?;
+    }
+    space.reset();
+    same(rt, space.footprint(), 12 + 32, "the footprint");
+    expect_dump(rt, alloc, toc, space)
+}
+
+fn check_seed(rt: &impl Abort, alloc: Global, seed: u32) -> Result<(), Fail> {
+    let mut program = started(alloc, &LISTS)?;
+    let toc = program.layout.toc();
+    take_many(rt, alloc, toc, &mut program.space, seed)
+}
+
 #[test]
 fn values_outlive_moves_in_any_order(rt: HostRuntime) -> Result<(), Fail> {
-    let alloc = rt.alloc();
-    let layout = layout_of(alloc, &LISTS)?;
-    let toc = layout.toc();
     for seed in 0..8 {
-        let mut space = started(alloc, &layout)?;
-        let mut drawn = Drawn(seed);
-        for _ in 0..60 {
-            let step = drawn.step(alloc)?;
-            take(&rt, alloc, toc, &mut space, &step)?;
-        }
-        space.reset();
-        expect_dump(&rt, alloc, toc, &space)?;
-        assert_eq!(&rt; space.footprint(), 12 + 32);
+        check_seed(&rt, rt.alloc(), seed)?;
     }
     Ok(())
 }

@@ -1,9 +1,13 @@
 // Growths at the end of the pool.
 
+ghost use Rattle.std.specs.Prelude.{◌≡◌};
+
 use super::calls::room;
 use super::{State, Step, check, started};
-use nxt_images::{ARRAY, EMPTY, Image, NO_DEFAULT, UBYTE, layout_of};
-use nxt_space::PoolPassed;
+use nxt_images::{ARRAY, EMPTY, Image, NO_DEFAULT, UBYTE};
+use nxt_space::{PoolPassed, Space};
+use nxt_types::toc::Toc;
+use std::process::Abort;
 use std::test::Fail;
 
 /// A list of bytes, and a list of lists of bytes.
@@ -181,15 +185,18 @@ static ROOMS: [(u16, u64, u64, Result<(), PoolPassed>); 8] = [
     (NAMES, 1 << 60, 1, Err(PoolPassed((1 << 60) + 36))),
 ];
 
-#[test]
-fn room_is_told_before_a_growth(rt: HostRuntime) -> Result<(), Fail> {
-    let alloc = rt.alloc();
-    let layout = layout_of(alloc, &POOL)?;
-    let toc = layout.toc();
-    let space = started(alloc, &layout)?;
+fn expect_rooms(rt: &impl Abort, toc: &Toc, space: &Space)
+    requires { toc.now.shapes ≡ space.now.vars.shapes }
+{
     for (i, bytes, lists, answer) in ROOMS {
-        let found = room(&rt, toc, &space, i, bytes, lists);
+        let found = room(rt, toc, space, i, bytes, lists);
         assert_eq!(rt; found, answer, "{lists} lists of {bytes} bytes at {i}");
     }
+}
+
+#[test]
+fn room_is_told_before_a_growth(rt: HostRuntime) -> Result<(), Fail> {
+    let program = started(rt.alloc(), &POOL)?;
+    expect_rooms(&rt, program.layout.toc(), &program.space);
     Ok(())
 }

@@ -1,7 +1,7 @@
 use Rattle.std.proofs.Common.{◌≡◌, suc, length, ap, subst, ◌∙◌, arith}
 use Rattle.nxt_rows.specs.Rows.{dope_row}
 use Rattle.nxt_compact.specs.Pools.{block_bytes}
-use Rattle.nxt_compact.proofs.Next.{IsNext}
+use Rattle.nxt_compact.proofs.Laws.Next.{IsNext}
 use Rattle.nxt_compact.proofs.Laws.Going.{Going-start, Going-moved, Going-stayed, Going-full, Going-out, Block', going_inside, next_inside, going_above, movable}
 use Rattle.nxt_compact.proofs.Ordered.{Ahead, ahead_first, next_row, ahead_next, all_passed}
 use Rattle.nxt_compact.proofs.settling.settle.Goals as goal

@@ -5,7 +5,7 @@ use Rattle.nxt_compact.proofs.Laws.Going.{first_full}
 use Rattle.nxt_compact.proofs.Laws.Opening.{before_most}
 use Rattle.nxt_heap.specs.Inside.Pool.{IsPool, IsEndBelow}
 use Rattle.nxt_heap.proofs.Begins.{table_inside}
-use Rattle.nxt_heap.proofs.Emptied.{own_none, emptied_pool, emptied_lists, emptied_fronts, emptied_none, emptied_last, emptied_end, table_below}
+use Rattle.nxt_heap.proofs.Emptied.{own_none, emptied_pool, emptied_lists, emptied_fronts, emptied_none, emptied_most, emptied_last, emptied_end}
 use Rattle.nxt_heap.proofs.ListsKept.{same_length}
 use Rattle.nxt_heap.proofs.OneRow.{total_kept}
 use Rattle.nxt_heap.proofs.blocks.drop_bytes.Goals as goal
@@ -17,28 +17,51 @@ get-found-requires c = omega (arith, c.requires.list.within, table_inside c.args
 pub write_none-requires : goal.write_none-requires
 write_none-requires c = omega (arith, c.requires.list.within, table_inside c.args.pool.now c.args.at.now.table c.args.at.now.base c.requires.blocks.is_pool)
 
-pub last_end-at-requires-clause-pool : goal.last_end-at-requires-clause-pool
-last_end-at-requires-clause-pool c =
+pub end_below-at-requires-clause-pool : goal.end_below-at-requires-clause-pool
+end_below-at-requires-clause-pool c =
     let b = c.requires.blocks in
     let l = c.requires.list in
-    (c.args.at.now.base, emptied_pool c.args.pool.now c.write_none.new.pool c.args.at.now.table c.args.at.now.base c.args.row b.is_pool l.above l.within l.alive c.write_none.ensures)
+    emptied_pool c.args.pool.now c.write_none.new.pool c.args.at.now.table c.args.at.now.base c.args.row b.is_pool l.above l.within l.alive c.write_none.ensures
 
-pub last_end-at-requires-clause-fronts : goal.last_end-at-requires-clause-fronts
-last_end-at-requires-clause-fronts c =
+pub end_below-at-requires-clause-fronts : goal.end_below-at-requires-clause-fronts
+end_below-at-requires-clause-fronts c =
     let b = c.requires.blocks in
     let l = c.requires.list in
     let at : c.word.result ≡ (dope_row c.args.pool.now c.args.at.now.table c.args.row).place / 4 = c.word.ensures ∙ ap (λ d. d.place / 4) c.get-found.ensures in
     let block : c.block_bytes-block.result ≡ block_bytes (dope_row c.args.pool.now c.args.at.now.table c.args.row) = c.block_bytes-block.ensures ∙ ap block_bytes c.get-found.ensures in
     rw at (emptied_fronts c.args.pool.now c.write_none.new.pool c.args.at.now.table c.args.at.now.base c.args.row b.is_pool l.above l.within l.alive c.write_none.ensures c.args.fronts.now b.are_fronts (record { within = l.within; some = omega (arith, block, c.if-block-gt0.true) }))
 
-pub last_end-at-requires-clause-some : goal.last_end-at-requires-clause-some
-last_end-at-requires-clause-some c =
+pub end_below-at-requires-clause-below : goal.end_below-at-requires-clause-below
+end_below-at-requires-clause-below c =
     let b = c.requires.blocks in
     let l = c.requires.list in
     let place : c.get-found.result.place ≡ (dope_row c.args.pool.now c.args.at.now.table c.args.row).place = ap (λ d. d.place) c.get-found.ensures in
     let block : c.block_bytes-block.result ≡ block_bytes (dope_row c.args.pool.now c.args.at.now.table c.args.row) = c.block_bytes-block.ensures ∙ ap block_bytes c.get-found.ensures in
-    let found = table_below c.args.pool.now c.write_none.new.pool c.args.at.now.table c.args.at.now.base c.args.row b.is_pool l.above l.within l.alive c.write_none.ensures c.args.at.now.end b.end_is (record { within = l.within; some = omega (arith, block, c.if-block-gt0.true) }) (omega (arith, place, block, c.if-place-block.true)) in
-    (found.0, found.1, omega (arith, found.2, place))
+    omega (arith, place, b.is_pool.size, b.is_pool.sound.within c.args.row (record { within = l.within; some = omega (arith, block, c.if-block-gt0.true) }))
+
+pub end_below-at-requires-clause-most : goal.end_below-at-requires-clause-most
+end_below-at-requires-clause-most c =
+    let b = c.requires.blocks in
+    let l = c.requires.list in
+    let place : c.get-found.result.place ≡ (dope_row c.args.pool.now c.args.at.now.table c.args.row).place = ap (λ d. d.place) c.get-found.ensures in
+    let block : c.block_bytes-block.result ≡ block_bytes (dope_row c.args.pool.now c.args.at.now.table c.args.row) = c.block_bytes-block.ensures ∙ ap block_bytes c.get-found.ensures in
+    let own : IsFull c.args.pool.now c.args.at.now.table c.args.row = record { within = l.within; some = omega (arith, block, c.if-block-gt0.true) } in
+    rw place (emptied_most c.args.pool.now c.write_none.new.pool c.args.at.now.table c.args.at.now.base c.args.row b.is_pool l.above l.within l.alive c.write_none.ensures c.args.at.now.end b.end_is own (omega (arith, place, block, c.if-place-block.true)))
+
+pub end_below-at-requires-clause-packed : goal.end_below-at-requires-clause-packed
+end_below-at-requires-clause-packed c dense =
+    let b = c.requires.blocks in
+    let l = c.requires.list in
+    let block : c.block_bytes-block.result ≡ block_bytes (dope_row c.args.pool.now c.args.at.now.table c.args.row) = c.block_bytes-block.ensures ∙ ap block_bytes c.get-found.ensures in
+    omega (
+      arith,
+      dense,
+      c.if-place-block.true,
+      block,
+      b.footprint_is,
+      own_none c.args.pool.now c.write_none.new.pool c.args.at.now.table c.args.at.now.base c.args.row b.is_pool l.above l.within l.alive c.write_none.ensures,
+      total_kept c.args.pool.now c.write_none.new.pool c.args.at.now.table c.args.at.now.base c.args.row no_place 0 0 b.is_pool l.above l.within l.alive c.write_none.ensures,
+    )
 
 pub overflow_sub-at : goal.overflow_sub-at
 overflow_sub-at c =
@@ -72,7 +95,7 @@ returns-after-place-block-clause-length c =
         word = b.word;
         are_fronts = rw at (emptied_fronts c.args.pool.now c.write_none.new.pool c.args.at.now.table c.args.at.now.base c.args.row b.is_pool l.above l.within l.alive c.write_none.ensures c.args.fronts.now b.are_fronts own);
         end_is = elim c.if-place-block.branch [
-          | then-place-block w ↦ rw w.at-is (emptied_last c.args.pool.now c.write_none.new.pool c.args.at.now.table c.args.at.now.base c.args.row b.is_pool l.above l.within l.alive c.write_none.ensures c.args.at.now.end w.last_end-at.result b.end_is own (omega (arith, place, block, w.if-place-block.true)) (subst (λ n. IsEndBelow c.write_none.new.pool c.args.at.now.table n w.last_end-at.result) place w.last_end-at.ensures))
+          | then-place-block w ↦ rw w.at-is (emptied_last c.args.pool.now c.write_none.new.pool c.args.at.now.table c.args.at.now.base c.args.row b.is_pool l.above l.within l.alive c.write_none.ensures c.args.at.now.end w.end_below-at.result b.end_is own (omega (arith, place, block, w.if-place-block.true)) (subst (λ n. IsEndBelow c.write_none.new.pool c.args.at.now.table n w.end_below-at.result) place w.end_below-at.ensures))
           | else-place-block w ↦ rw w.at-is (emptied_end c.args.pool.now c.write_none.new.pool c.args.at.now.table c.args.at.now.base c.args.row b.is_pool l.above l.within l.alive c.write_none.ensures c.args.at.now.end b.end_is (λ f e. w.if-place-block.false (omega (arith, place, block, e))))
         ];
         footprint_is = omega (arith, b.footprint_is, block, most, own_none c.args.pool.now c.write_none.new.pool c.args.at.now.table c.args.at.now.base c.args.row b.is_pool l.above l.within l.alive c.write_none.ensures, total_kept c.args.pool.now c.write_none.new.pool c.args.at.now.table c.args.at.now.base c.args.row no_place 0 0 b.is_pool l.above l.within l.alive c.write_none.ensures);

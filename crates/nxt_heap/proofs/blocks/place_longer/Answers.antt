@@ -1,13 +1,15 @@
 use Rattle.std.proofs.Common.{◌-◌, arith}
 use Rattle.nxt_rows.specs.Rows.{dope_row}
 use Rattle.nxt_compact.specs.Pools.{block_bytes}
+use Rattle.nxt_heap.proofs.IntoHole.{hole_open}
 use Rattle.nxt_heap.proofs.Needs.{moves_into, slides}
 use Rattle.nxt_heap.proofs.Rooms.{smaller_hole, moved_room}
 use Rattle.nxt_heap.proofs.blocks.place_longer.Goals as goal
 
 pub move_to-requires-clause-hole : goal.move_to-requires-clause-hole
 move_to-requires-clause-hole c =
-    smaller_hole c.args.pool.now c.args.at.now.table c.in-Some.place c.args.bytes (block_bytes (dope_row c.args.pool.now c.args.at.now.table c.args.row)) (omega (arith, c.requires.longer)) c.in-Some.ensures.some.hole
+    let block = block_bytes (dope_row c.args.pool.now c.args.at.now.table c.args.row) in
+    hole_open c.args.pool.now c.args.at.now.table c.args.row c.in-Some.place block (smaller_hole c.args.pool.now c.args.at.now.table c.in-Some.place c.args.bytes block (omega (arith, c.requires.longer)) c.in-Some.ensures.some.hole)
 
 pub returns-in-Some-clause-room : goal.returns-in-Some-clause-room
 returns-in-Some-clause-room c =

@@ -10,13 +10,13 @@ use Rattle.nxt_ops.proofs.DecidingNumbers.{lists_held}
 use Rattle.nxt_operands.proofs.Laws.NumberLists.{alike_numbers, variable_numbers}
 use Rattle.nxt_ops.proofs.comparing.holds.Goals as goal
 
-pub deciding_at-requires-clause-list_x : goal.deciding_at-requires-clause-list_x
-deciding_at-requires-clause-list_x c =
+pub deciding_apart-requires-clause-list_x : goal.deciding_apart-requires-clause-list_x
+deciding_apart-requires-clause-list_x c =
     let s = c.args.space.now.vars in
     variable_numbers s c.args.x c.requires.sound c.requires.x (alike_numbers (shape_of s c.args.x) (shape_of s c.args.y) c.requires.fit c.requires.list).0
 
-pub deciding_at-requires-clause-list_y : goal.deciding_at-requires-clause-list_y
-deciding_at-requires-clause-list_y c =
+pub deciding_apart-requires-clause-list_y : goal.deciding_apart-requires-clause-list_y
+deciding_apart-requires-clause-list_y c =
     let s = c.args.space.now.vars in
     variable_numbers s c.args.y c.requires.sound c.requires.y (alike_numbers (shape_of s c.args.x) (shape_of s c.args.y) c.requires.fit c.requires.list).1
 
