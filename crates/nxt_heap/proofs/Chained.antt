@@ -16,6 +16,7 @@ use Rattle.nxt_heap.specs.declared.blocks.Places.{Places}
 use Rattle.nxt_heap.specs.Inside.Pool.{row_bytes, list_in, lists_in, IsPool, IsEnd, AreFronts, AreBlocks}
 use Rattle.nxt_heap.proofs.Begins.{SameOthers, no_front_before, fronts_kept, no_front_then, table_inside}
 use Rattle.nxt_heap.proofs.ListsKept.{list_in-first, list_in-moved, lists_in-set}
+use Rattle.nxt_heap.proofs.Searched.{searched_still}
 use Rattle.nxt_heap.proofs.Windows.{block-none, row_bytes-none}
 
 pub record Swaps (old new : List ℕ) (table row : ℕ) : Type 0 where
@@ -224,4 +225,8 @@ swapped_blocks old new fronts q row b s = record {
   are_fronts = swapped_fronts old new q.table q.base row b.is_pool s fronts b.are_fronts;
   end_is = swapped_end old new q.table q.base row b.is_pool s q.end b.end_is;
   footprint_is = b.footprint_is ∙ ap (λ n. q.base + n) (sym (swapped_total old new q.table q.base row b.is_pool s));
+  searched = searched_still old new q.table q.table q.base q.searched q.sought s.size
+      (λ r f less. let g = was old new q.table q.base row b.is_pool s r f in (g, stands old new q.table q.base row b.is_pool s r g, swapped_block old new q.table q.base row b.is_pool s r))
+      (λ r f. (full_still old new q.table q.base row b.is_pool s r f, stands old new q.table q.base row b.is_pool s r f, λ less. omega (arith, swapped_block old new q.table q.base row b.is_pool s r)))
+      b.searched;
 }

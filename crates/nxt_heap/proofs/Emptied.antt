@@ -5,7 +5,6 @@ use Rattle.std.proofs.lemmas.Bool.{cases_eq, cases_lt}
 use Rattle.std.proofs.lemmas.List.{nil_from_length}
 use Rattle.nxt_rows.specs.Rows.{dope_row, row_count, no_place}
 use Rattle.nxt_compact.specs.Pools.{block_bytes, IsFull, IsSound}
-use Rattle.nxt_compact.proofs.Laws.Going.{first_full}
 use Rattle.nxt_heap.specs.Lists.{of_length}
 use Rattle.nxt_heap.specs.Inside.Pool.{row_bytes, lists_in, lists_with_length, IsPool, IsEnd, IsEndBelow, AreFronts, Relists, no_row}
 use Rattle.nxt_heap.proofs.Begins.{SameOthers, drop_front, no_front_before, fronts_kept, no_front_then}

@@ -11,11 +11,12 @@ use Rattle.nxt_blocks.specs.Standing.{IsApart}
 use Rattle.nxt_rows.specs.Rows.{dope_row, row_count}
 use Rattle.nxt_compact.specs.Pools.{block_bytes, block_of, IsFull, IsSound}
 use Rattle.nxt_heap.specs.Lists.{of_length}
-use Rattle.nxt_heap.specs.Inside.Pool.{row_bytes, lists_in, lists_with_length, IsPool, IsRoom, IsEnd, AreFronts, Relists, no_row}
+use Rattle.nxt_heap.specs.Inside.Pool.{row_bytes, lists_in, lists_with_length, IsPool, IsRoom, IsEnd, AreFronts, IsSearched, Relists, no_row}
 use Rattle.nxt_heap.proofs.Begins.{SameOthers, drop_front, no_front_before, fronts_kept, put_front}
 use Rattle.nxt_heap.proofs.Laws.Lengths.{length-of_length, of_length-front, of_length-back}
 use Rattle.nxt_heap.proofs.ListsKept.{IsFreeChain-kept, list_in-some, lists_in-set}
 use Rattle.nxt_heap.proofs.OneRow.{count_kept, strides, chain_kept, others_kept, other_list}
+use Rattle.nxt_heap.proofs.Searched.{searched_others}
 use Rattle.nxt_heap.proofs.Windows.{length-window, block_is, row_bytes-none}
 
 module _ (old new : List ℕ) (table base row place bytes : ℕ) (p : IsPool old table base) (above : 0 < row) (within : row < row_count old table) (alive : (dope_row old table row).stride ≢ 0)
@@ -177,6 +178,13 @@ module _ (old new : List ℕ) (table base row place bytes : ℕ) (p : IsPool old
         ]
     | inr none ↦ omega (arith, e.most q f, last, none)
   ]
+
+  pub longer_searched : (searched sought : ℕ) → searched ≤ place → IsSearched old table base searched sought → IsSearched new table base searched sought
+  longer_searched searched sought low s =
+      searched_others old new table table base searched sought row r.size same
+      (λ f. (longer_full, own_place ∙ sym (room.own f), omega (arith, low, room.own f)))
+      (λ f. omega (arith, low, own_place))
+      s
 
   pub longer_last : (end : ℕ) → IsEnd old table end → place + block_bytes (dope_row old table row) ≡ end → IsEnd new table (place + round4 bytes)
   longer_last end e last = record {

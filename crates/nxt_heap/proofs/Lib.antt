@@ -12,6 +12,8 @@ mod WordPlaces
 mod Settled
 -- Blocks that settle one after another.
 mod Settling
+-- The place below which no hole begins that holds so many bytes as were sought.
+mod Searched
 -- A block that moves to where no other one has a byte.
 mod IntoHole
 -- Room behind a block, where all gaps closed.

@@ -16,8 +16,10 @@ use Rattle.nxt_compact.specs.Pools.{block_bytes, block_of, blocks_in, IsFull, Is
 use Rattle.nxt_compact.proofs.Laws.Going.{first_full}
 use Rattle.nxt_compact.proofs.Laws.Opening.{bytes_before, before_next, before_all}
 use Rattle.nxt_heap.specs.Lists.{empty_list}
-use Rattle.nxt_heap.specs.Inside.Pool.{row_bytes, list_in, lists_in, IsPool, IsRoom, IsEnd, AreFronts, AddsRow}
+use Rattle.nxt_heap.specs.Inside.Pool.{row_bytes, list_in, lists_in, IsPool, IsRoom, IsEnd, AreFronts, IsSearched, AddsRow}
+use Rattle.nxt_heap.proofs.Begins.{SameOthers}
 use Rattle.nxt_heap.proofs.ListsKept.{list_in-first, list_in-some, list_in-moved, length-lists_in, lists_in-at}
+use Rattle.nxt_heap.proofs.Searched.{searched_others}
 use Rattle.nxt_heap.proofs.Windows.{block_is, block-none, row_bytes-none}
 
 -- no row is free where the first link is 0, and only there
@@ -212,6 +214,22 @@ module _ (old new : List ℕ) (table base stride : ℕ) (p : IsPool old table ba
     | inl here ↦ ap (λ k. (dope_row new table k).place) here ∙ ap (λ d. d.place) a.first ∙ ap (λ k. (dope_row old table k).place) (sym here)
     | inr there ↦ ap (λ d. d.place) (row_was q f there)
   ]
+
+  -- but for the table, the blocks stay
+  added_others : SameOthers old new table table 0
+  added_others = record {
+    then = λ q other f. full_then q f;
+    before = λ q other f. was q f other;
+    place = λ q other f. place_same q f;
+    bytes = λ q other f. ap block_bytes (row_was q f other);
+  }
+
+  pub added_searched : (searched sought : ℕ) → searched ≤ table → IsSearched old table base searched sought → IsSearched new table base searched sought
+  added_searched searched sought low s =
+      searched_others old new table table base searched sought 0 a.size added_others
+      (λ f. (full_then 0 f, place_same 0 f, omega (arith, low, p.sound.place)))
+      (λ f. omega (arith, low, first_place))
+      s
 
   pub added_fronts : (fronts : List ℕ) → AreFronts old table fronts → AreFronts new table fronts
   added_fronts fronts fs = record {

@@ -1,7 +1,6 @@
 -- Blocks that settle one after another, from the lowest up, found by their fronts.
-use Rattle.std.proofs.Common.{◌≡◌, ℕ, suc, ◌+◌, ◌/◌, ◌%◌, ◌<◌, ◌≤◌, inl, inr, List, length, slice_index, refl, ap, sym, subst, ◌∙◌, arith}
+use Rattle.std.proofs.Common.{◌≡◌, ℕ, suc, ◌+◌, ◌/◌, ◌%◌, ◌<◌, ◌≤◌, inl, inr, List, length, slice_index, refl, ap, subst, ◌∙◌, arith}
 use Rattle.std.proofs.lemmas.Bool.{cases_lt}
-use Rattle.nxt_types.specs.Pool.{pool_size}
 use Rattle.nxt_rows.specs.Rows.{dope_row}
 use Rattle.nxt_blocks.specs.Blocks.{place_after}
 use Rattle.nxt_blocks.specs.Standing.{settled_place}

@@ -16,6 +16,7 @@ use Rattle.nxt_heap.specs.Moves.{RowsStay}
 use Rattle.nxt_heap.specs.Inside.Pool.{row_bytes, list_in, lists_in, lists_with_bytes, IsPool, AreBlocks}
 use Rattle.nxt_heap.proofs.Begins.{table_inside}
 use Rattle.nxt_heap.proofs.ListsKept.{free_rows-kept, IsFreeChain-kept, list_in-first, list_in-some, list_in-moved, lists_in-set, same_lists_in}
+use Rattle.nxt_heap.proofs.Searched.{searched_still}
 use Rattle.nxt_heap.proofs.Windows.{le-block}
 
 -- ---- the rows stay
@@ -100,6 +101,10 @@ module _ (old new fronts : List ℕ) (q : Places) (b : AreBlocks old fronts q) (
       is = (b.end_is.is.0, full_is b.end_is.is.0 b.end_is.is.1, omega (arith, b.end_is.is.2, place_is b.end_is.is.0 b.end_is.is.1, bytes_are b.end_is.is.0 b.end_is.is.1));
     };
     footprint_is = b.footprint_is ∙ ap (λ n. q.base + n) (sym rows_total);
+    searched = searched_still old new q.table q.table q.base q.searched q.sought size
+        (λ r f less. (full_was r f, place_is r (full_was r f), bytes_are r (full_was r f)))
+        (λ r f. (full_is r f, place_is r f, λ less. omega (arith, bytes_are r f)))
+        b.searched;
   }
 
   -- a list whose bytes stay

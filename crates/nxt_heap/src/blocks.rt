@@ -19,13 +19,15 @@ use nxt_rows::{DopeRow, NO_PLACE, free_row, get, set, take_row};
 use nxt_types::pool::{POOL_BYTES, ROW_BYTES, round4};
 
 /// The places of a pool: where blocks may begin, where the table stands, where the last block ends, and where it would end
-/// without gaps.
+/// without gaps; and a place below which no hole begins that holds so many bytes as were sought.
 #[derive(Clone, Copy)]
 pub struct Places {
     pub base: u32,
     pub table: u32,
     pub end: u32,
     pub footprint: u32,
+    pub searched: u32,
+    pub sought: u32,
 }
 
 /// The front of the lowest hole that holds so many bytes.
@@ -38,6 +40,8 @@ fn hole(pool: &[u8], fronts: &[u16], at: Places, bytes: u32) -> Option<u32>
 {
     let start = if at.end == at.footprint {
         at.end
+    } else if bytes >= at.sought {
+        at.searched
     } else {
         at.base
     };
@@ -58,6 +62,7 @@ fn move_to(pool: &mut [u8], fronts: &mut [u16], at: &mut Places, row: u16, place
     move_block(pool, &mut at.table, row, place);
     fronts[word(place)] = row;
     at.end = end_after(pool, fronts, *at, row, from);
+    at.searched = at.base;
 }
 
 /// Where the last block ends once the block of a row has moved from a place.
@@ -116,6 +121,7 @@ fn slide(pool: &mut [u8], fronts: &mut [u16], at: &mut Places, row: u16, bytes: 
 {
     open_gap(pool, &mut at.table, at.base, row, bytes);
     at.end = refresh(pool, fronts, at.table);
+    at.searched = at.base;
     get(pool, at.table, row).place as u32
 }
 
@@ -190,7 +196,11 @@ fn place_new(pool: &mut [u8], fronts: &mut [u16], at: &mut Places, row: u16, byt
     ensures need { MakesRoom pool.old pool.new at.old at.new row bytes result }
 {
     match hole(pool, fronts, *at, bytes) {
-        Some(place) => place,
+        Some(place) => {
+            at.searched = place;
+            at.sought = bytes;
+            place
+        }
         None => {
             settle(pool, fronts, at, u16::MAX);
             at.footprint
@@ -225,6 +235,7 @@ fn set_length(
         at.end.max(place + room)
     };
     at.footprint = at.footprint + room - block;
+    at.searched = still_searched(*at, place);
 }
 
 /// Writes the row of a list that has so many bytes at a place, and zeros behind its front.
@@ -293,6 +304,7 @@ fn drop_bytes(pool: &mut [u8], fronts: &mut [u16], at: &mut Places, row: u16)
             at.end
         };
         at.footprint -= block;
+        at.searched = at.base;
     }
 }
 
@@ -426,6 +438,18 @@ fn add_row(pool: &mut [u8], fronts: &[u16], at: &mut Places, stride: u16)
         at.end.max(at.table + room)
     };
     at.footprint = at.footprint + room - had;
+    at.searched = still_searched(*at, at.table);
+}
+
+/// Up to where it stays known that no hole begins once a block has another size that stands at a place.
+fn still_searched(at: Places, place: u32) -> u32
+    ensures { (result ≡ at.base) ⊎ ((result ≡ at.searched) × (at.searched ≤ place)) }
+{
+    if place < at.searched {
+        at.base
+    } else {
+        at.searched
+    }
 }
 
 /// Writes a row with an empty list behind the last one.
@@ -462,6 +486,8 @@ pub fn lay_out(pool: &mut [u8], fronts: &mut [u16], base: u32, rows: u16) -> Pla
         table: base,
         end,
         footprint: end,
+        searched: base,
+        sought: 0,
     }
 }
 

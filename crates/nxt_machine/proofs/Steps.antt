@@ -8,6 +8,8 @@ pub mod Fetched
 pub mod Stored
 -- The clumps of a turn.
 pub mod Turns
+-- A statement within a turn that is no matter of clumps and tells nothing.
+pub mod Plain
 -- Statements on numbers, one behind another.
 pub mod Numbers
 -- A statement on an element of a list within a turn.

@@ -60,7 +60,7 @@ pub(crate) fn set_output(
     set_several(space, io, &ports, instr, words, out)
 }
 
-// The same for the motor of a port, if there is one. Room for its line is made first.
+// The same for the motor of a port, if there is one. Room for its line is made first; without it a motor is set that tells none.
 fn set_one(
     space: &Space,
     io: &mut Io,
@@ -79,10 +79,15 @@ fn set_one(
     if port >= 3 {
         return Ok(());
     }
+    let port = port as u8;
+    if room_if(true, out).is_ok() {
+        return set_motor(space, io, port, instr, words, out);
+    }
     io.is_sound();
-    let tells = flags_after(space, io, port as u8, instr, words) != 0;
-    room_if(tells, out)?;
-    set_motor(space, io, port as u8, instr, words, out)
+    if flags_after(space, io, port, instr, words) != 0 {
+        return Err(NoMemory);
+    }
+    set_motor(space, io, port, instr, words, out)
 }
 
 // The same for the motors of several ports. Room for all their lines is made first.

@@ -179,8 +179,8 @@ fn call(
     }
 }
 
-// Runs a statement that computes.
-fn compute(
+/// Runs a statement that computes.
+pub(crate) fn compute(
     alloc: Global,
     program: &mut Program,
     place: u32,
@@ -211,8 +211,8 @@ fn compute(
     }
 }
 
-// Runs a statement on lists or texts.
-fn arrange(
+/// Runs a statement on lists or texts.
+pub(crate) fn arrange(
     alloc: Global,
     program: &mut Program,
     place: u32,

@@ -6,7 +6,7 @@ use Rattle.nxt_model.specs.Dump.{Content, Dump, dump_lines}
 use Rattle.nxt_model.specs.Image.{Image, program_of}
 use Rattle.nxt_model.specs.LineText.{lines_text}
 use Rattle.nxt_model.specs.Program.{Program, State, start}
-use Rattle.nxt_model.specs.Report.{Setting, Tells, content_of, text_content}
+use Rattle.nxt_model.specs.Report.{Tells, content_of, text_content}
 use Rattle.nxt_model.specs.Step.{run}
 use Rattle.nxt_model.specs.TextProgram as text
 

@@ -10,11 +10,14 @@ use itoa::Buffer;
 use nxt_types::{Bytes, NoMemory};
 use std::alloc::Global;
 
-// Adds a comma and a number.
+// Adds a comma and a number, most of which have one digit.
 fn push_number(number: i64, into: &mut Bytes) -> Result<(), NoMemory>
     ensures ok { OnOk result (into.new ≡ into.old ++ 44 ∷ number_text number) }
     ensures err { OnErr result (take (length into.old) into.new ≡ into.old) }
 {
+    if let Ok(digit @ 0..=9) = u8::try_from(number) {
+        return into.append(&[b',', b'0' + digit]);
+    }
     let mut buffer = Buffer::new();
     into.push(b',')?;
     into.append(buffer.format(number).as_bytes())

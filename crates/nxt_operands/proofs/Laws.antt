@@ -20,3 +20,7 @@ pub mod InPlace
 pub mod Beside
 -- A statement that writes to an entry and then changes no row of the table.
 pub mod Leaving
+-- Parts of values by their paths.
+pub mod Paths
+-- What an entry names among the members of a cluster that another entry names.
+pub mod Members

@@ -11,3 +11,5 @@ pub mod OnWords
 pub mod Readied
 pub mod OnLists
 pub mod Laws
+-- Clusters of numbers, number by number.
+mod Memberwise

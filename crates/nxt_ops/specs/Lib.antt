@@ -3,3 +3,4 @@ pub mod Ops
 pub mod Ready
 pub mod Passes
 pub mod Sides
+pub mod Clusters

@@ -14,7 +14,8 @@ ghost use Rattle.nxt_operands.specs.Operands.{Done};
 ghost use Rattle.nxt_ops.specs.Elements.{pairs_of, numbers_by};
 
 use crate::operator::{One, Two};
-use crate::passes::{change_words, combine_words, store_words, words_in};
+use crate::passes::{change_words, combine_numbers, combine_words, store_words, words_in};
+use nxt_operands::lists::count_in;
 use nxt_space::{ListSpot, OpFault, Space, Spot};
 use nxt_types::NoMemory;
 use std::alloc::Global;
@@ -99,9 +100,9 @@ fn words_of_lists(
     ensures few { IfOk result (λ ws. length ws.items ≤ pool_size) }
 {
     let mut words = words_in(alloc, x.kind(), space.bytes(x))?;
-    let others = words_in(alloc, y.kind(), space.bytes(y))?;
-    words.truncate(others.len());
-    combine_words(operator, signed, &mut words, &others);
+    let bytes = space.bytes(y);
+    words.truncate(count_in(y.kind(), bytes));
+    combine_numbers(alloc, operator, signed, &mut words, y.kind(), bytes)?;
     Ok(words)
 }
 

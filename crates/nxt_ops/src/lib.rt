@@ -2,6 +2,7 @@
 //! Set": math, logic, comparison, branching, and moves).
 #![tactic(auto)]
 
+mod clusters;
 mod comparing;
 mod in_place;
 mod lists;

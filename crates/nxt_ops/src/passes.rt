@@ -1,6 +1,6 @@
 // Lists of numbers as words, which plain passes read, change and write. A pass has its kind or its operator as a constant.
 
-ghost use Rattle.std.specs.Prelude.{◌≡◌, ◌≤◌, ◌+◌, ◌*◌, length, pos, IfOk, ℕ, ◌∷◌, []};
+ghost use Rattle.std.specs.Prelude.{◌≡◌, ◌≤◌, ◌+◌, ◌*◌, length, pos, IfOk, OnOk, ℕ, ◌∷◌, []};
 ghost use Rattle.nxt_types.specs.Arithmetic.{leaf_size as size_of_leaf};
 ghost use Rattle.nxt_types.specs.Pool.{pool_size};
 ghost use Rattle.nxt_model.specs.Values.{elements, stored};
@@ -62,6 +62,68 @@ pub fn combine_words(operator: Two, signed: bool, xs: &mut [u32], ys: &[u32])
         Two::Calculate(Arith::Or) => combine_each(Two::Calculate(Arith::Or), signed, xs, ys),
         Two::Calculate(Arith::Xor) => combine_each(Two::Calculate(Arith::Xor), signed, xs, ys),
         _ => combine_each(operator, signed, xs, ys),
+    }
+}
+
+/// The same for a word and a number of a kind in bytes. Numbers of 32 bits are read where they stand.
+pub fn combine_numbers(
+    alloc: Global,
+    operator: Two,
+    signed: bool,
+    xs: &mut [u32],
+    kind: Kind,
+    bytes: &[u8],
+) -> Result<(), NoMemory>
+    requires { length xs.old ≤ length (elements (numbers_in_bytes kind bytes.now)) }
+    ensures { OnOk result (xs.new ≡ two_words operator signed xs.old (words_of (numbers_in_bytes kind bytes.now))) }
+{
+    match kind {
+        Kind::Ulong => combine_longs(operator, signed, xs, Kind::Ulong, bytes),
+        Kind::Slong => combine_longs(operator, signed, xs, Kind::Slong, bytes),
+        _ => {
+            let ys = words_in(alloc, kind, bytes)?;
+            combine_words(operator, signed, xs, &ys);
+        }
+    }
+    Ok(())
+}
+
+#[inline(always)]
+fn combine_longs(operator: Two, signed: bool, xs: &mut [u32], kind: Kind, bytes: &[u8])
+    requires { length xs.old ≤ length (elements (numbers_in_bytes kind bytes.now)) }
+    ensures { xs.new ≡ two_words operator signed xs.old (words_of (numbers_in_bytes kind bytes.now)) }
+{
+    match operator {
+        Two::Calculate(Arith::Add) => {
+            combine_beside(Two::Calculate(Arith::Add), signed, xs, kind, bytes);
+        }
+        Two::Calculate(Arith::Sub) => {
+            combine_beside(Two::Calculate(Arith::Sub), signed, xs, kind, bytes);
+        }
+        Two::Calculate(Arith::Mul) => {
+            combine_beside(Two::Calculate(Arith::Mul), signed, xs, kind, bytes);
+        }
+        Two::Calculate(Arith::And) => {
+            combine_beside(Two::Calculate(Arith::And), signed, xs, kind, bytes);
+        }
+        Two::Calculate(Arith::Or) => {
+            combine_beside(Two::Calculate(Arith::Or), signed, xs, kind, bytes);
+        }
+        Two::Calculate(Arith::Xor) => {
+            combine_beside(Two::Calculate(Arith::Xor), signed, xs, kind, bytes);
+        }
+        _ => combine_beside(operator, signed, xs, kind, bytes),
+    }
+}
+
+#[inline(always)]
+fn combine_beside(operator: Two, signed: bool, xs: &mut [u32], kind: Kind, bytes: &[u8])
+    requires { length xs.old ≤ length (elements (numbers_in_bytes kind bytes.now)) }
+    ensures { xs.new ≡ two_words operator signed xs.old (words_of (numbers_in_bytes kind bytes.now)) }
+{
+    for k in 0..xs.len() {
+        let x = xs[k];
+        xs[k] = two_word(operator, signed, x, word_in(kind, bytes, k));
     }
 }
 

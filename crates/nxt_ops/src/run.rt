@@ -14,6 +14,7 @@ ghost use Rattle.nxt_space.specs.Outcomes.{Does};
 ghost use Rattle.nxt_operands.specs.Operands.{Done, given};
 ghost use Rattle.nxt_ops.specs.Ops.{dests, CanRun, statement_in, next_of, effect_in, values_after, stores, runs as does_run, two_of as operator_on_two, one_of as operator_on_one};
 
+use crate::clusters::copy_numbers;
 use crate::comparing::holds;
 use crate::in_place::{convert_list, two_lists};
 use crate::lists::{combine_lists, map_list};
@@ -185,6 +186,21 @@ fn copy(alloc: Global, space: &mut Space, dest: u16, source: u16) -> Result<(), 
     if let Some((to, from)) = two_lists(space, dest, source) {
         return convert_list(alloc, space, to, from);
     }
+    if copy_numbers(space, dest, source) {
+        return Ok(());
+    }
+    copy_flat(alloc, space, dest, source)
+}
+
+// The same by the value's flat form.
+fn copy_flat(alloc: Global, space: &mut Space, dest: u16, source: u16) -> Result<(), OpFault>
+    requires sound { AreSound space.old.vars }
+    requires dest { IsSome (name_of space.old.vars dest) }
+    requires source { IsSome (name_of space.old.vars source) }
+    requires fit { convertible (shape_of space.old.vars dest) (shape_of space.old.vars source) ≡ true }
+    ensures does { Does Done (with_value space.old.vars dest (stored (shape_of space.old.vars dest) (value_of space.old.vars source))) space.old result space.new }
+    ensures leaves { Leaves (dest ∷ []) space.old space.new }
+{
     let flat = flat_of(alloc, space, source)?;
     store(space, dest, &flat)
 }

@@ -1,6 +1,5 @@
 pub mod Parts
 pub mod Drawn
-pub mod Members
 pub mod Places
 pub mod Laws
 pub mod StoredTexts

@@ -11,7 +11,7 @@ use Rattle.nxt_types.specs.declared.calls.Field.{Field}
 use Rattle.nxt_types.specs.declared.calls.Field.TheVariants.{Number as a_number, Text as a_text, Place as a_place}
 use Rattle.nxt_types.specs.declared.kind.Kind.TheVariants.{Ubyte}
 use Rattle.nxt_sys.specs.Fields.{width}
-use Rattle.nxt_sys.proofs.Members.{name_behind, name_in_first, some_entry}
+use Rattle.nxt_operands.proofs.Laws.Members.{name_behind, name_in_first, some_entry}
 
 -- ---- how many entries members take
 

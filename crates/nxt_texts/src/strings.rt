@@ -19,6 +19,7 @@ use crate::text::{body, copied, final_zero, lent, section, store_bytes, store_te
 use nxt_operands::operands::word_or;
 use nxt_operands::storing::check_room;
 use nxt_space::{ListSpot, OpFault, Space};
+use nxt_types::pool::POOL_BYTES;
 use nxt_types::{Bytes, NoMemory};
 use nxt_values::sizing::NONE;
 use std::alloc::Global;
@@ -39,13 +40,14 @@ pub fn concatenate(
     ensures does { (d : Devices) → Does Done (values_stored space.old.vars (place_of space.old.vars dest ∷ []) (concatenate_means d (given space.old.vars dest ∷ map (given space.old.vars) sources.now))) space.old result space.new }
     ensures leaves { Leaves (dest ∷ []) space.old space.new }
 {
+    if let Some((list, others)) = grown(space, dest, sources) {
+        if bodies_length(alloc, space, others)? <= POOL_BYTES {
+            return add_bodies(alloc, space, list, others);
+        }
+    }
     // The pool is asked before the bodies are put together, since they may be far longer than it.
     let length = bodies_length(alloc, space, sources)?;
     check_room(space, dest, length + 1, NONE)?;
-
-    if let Some((list, others)) = grown(space, dest, sources) {
-        return add_bodies(alloc, space, list, others);
-    }
     let bytes = bodies(alloc, space, sources, length as usize)?;
     store_text(alloc, space, dest, bytes.as_slice())
 }

@@ -166,6 +166,14 @@ pub record MayHave (pool : List ℕ) (table base row bytes : ℕ) : Type 0 where
   pub some : 0 < bytes
   pub fits : base + total (blocks_in pool table) + bytes ≤ pool_size + block_bytes (dope_row pool table row)
 
+-- below a place no hole begins that holds so many bytes as were sought, and no block reaches over it
+pub record IsSearched (pool : List ℕ) (table base searched sought : ℕ) : Type 0 where
+  pub above : base ≤ searched
+  pub word : searched % 4 ≡ 0
+  pub inside : searched ≤ pool_size
+  pub clean : IsClean pool table searched
+  pub none : (at : ℕ) → base ≤ at → at < searched → IsHole pool table at sought → ⊥
+
 -- the places fit the pool and its fronts
 pub record AreBlocks (pool fronts : List ℕ) (p : Places) : Type 0 where
   pub is_pool : IsPool pool p.table p.base
@@ -173,6 +181,7 @@ pub record AreBlocks (pool fronts : List ℕ) (p : Places) : Type 0 where
   pub are_fronts : AreFronts pool p.table fronts
   pub end_is : IsEnd pool p.table p.end
   pub footprint_is : p.footprint ≡ p.base + total (blocks_in pool p.table)
+  pub searched : IsSearched pool p.table p.base p.searched p.sought
 
 -- a row's block stood at another place, where the last of all blocks ended at the end that is noted
 pub record HasMoved (pool : List ℕ) (p : Places) (row from : ℕ) : Type 0 where

@@ -18,8 +18,8 @@ use Rattle.nxt_space.specs.Variables.{Variables, AreSound, name_of, shape_of, sh
 use Rattle.nxt_operands.specs.Operands.{place_of}
 use Rattle.nxt_sys.specs.Answers.{with_member}
 use Rattle.nxt_sys.specs.Fields.{HasCluster, HasField, IsMember, member_name, width}
-use Rattle.nxt_sys.proofs.Members.{name_under, entry_within}
-use Rattle.nxt_sys.proofs.Parts.{part_append}
+use Rattle.nxt_operands.proofs.Laws.Members.{name_under, entry_within}
+use Rattle.nxt_operands.proofs.Laws.Paths.{part_append}
 use Rattle.nxt_sys.proofs.Places.{member_at, field_at}
 
 -- ---- by its name

@@ -1,10 +1,11 @@
-use Rattle.std.proofs.Common.{◌≡◌, ◌+◌, ◌*◌, ◌≤◌, inl, refl, ap, ◌∙◌, arith}
+use Rattle.std.proofs.Common.{◌≡◌, ◌+◌, ◌*◌, ◌≤◌, inl, inr, refl, ap, ◌∙◌, arith}
 use Rattle.nxt_types.specs.Pool.{round4}
 use Rattle.nxt_rows.specs.Rows.{dope_row, row_count}
 use Rattle.nxt_compact.specs.Pools.{block_bytes}
 use Rattle.nxt_compact.proofs.Laws.Going.{first_full}
 use Rattle.nxt_compact.proofs.Laws.Opening.{before_most}
-use Rattle.nxt_heap.proofs.RowAdded.{table_was, added_pool, added_lists, added_fronts, added_last, added_most, added_total}
+use Rattle.nxt_heap.proofs.RowAdded.{table_was, added_pool, added_lists, added_fronts, added_last, added_most, added_searched, added_total}
+use Rattle.nxt_heap.proofs.Searched.{searched_anew}
 use Rattle.nxt_heap.proofs.Settled.{total_below, end_inside}
 use Rattle.nxt_heap.proofs.blocks.add_row.Goals as goal
 use Rattle.nxt_heap.proofs.blocks.add_row.Goals.{then-at-had, else-at-had}
@@ -63,6 +64,10 @@ returns-clause-added c =
           | else-at-had w ↦ rw (w.at-is, w.max-at.ensures, room) (added_most c.args.pool.now c.write_row.new.pool c.args.at.now.table c.args.at.now.base c.args.stride b.is_pool c.requires.full c.requires.stride c.requires.room c.write_row.ensures c.args.at.now.end b.end_is (λ e. w.if-at-had.false (omega (arith, e, had, own))))
         ];
         footprint_is = omega (arith, b.footprint_is, had, room, own, most, added_total c.args.pool.now c.write_row.new.pool c.args.at.now.table c.args.at.now.base c.args.stride b.is_pool c.requires.full c.requires.stride c.requires.room c.write_row.ensures);
+        searched = elim c.still_searched-at.ensures [
+          | inl anew ↦ rw anew (searched_anew c.write_row.new.pool c.args.at.now.table c.args.at.now.base c.args.at.now.sought (added_pool c.args.pool.now c.write_row.new.pool c.args.at.now.table c.args.at.now.base c.args.stride b.is_pool c.requires.full c.requires.stride c.requires.room c.write_row.ensures) b.word)
+          | inr still ↦ rw still.0 (added_searched c.args.pool.now c.write_row.new.pool c.args.at.now.table c.args.at.now.base c.args.stride b.is_pool c.requires.full c.requires.stride c.requires.room c.write_row.ensures c.args.at.now.searched c.args.at.now.sought still.1 b.searched)
+        ];
       };
       base = refl;
       lists = added_lists c.args.pool.now c.write_row.new.pool c.args.at.now.table c.args.at.now.base c.args.stride b.is_pool c.requires.full c.requires.stride c.requires.room c.write_row.ensures;

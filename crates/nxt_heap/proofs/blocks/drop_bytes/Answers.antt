@@ -7,7 +7,8 @@ use Rattle.nxt_heap.specs.Inside.Pool.{IsPool, IsEndBelow}
 use Rattle.nxt_heap.proofs.Begins.{table_inside}
 use Rattle.nxt_heap.proofs.Emptied.{own_none, emptied_pool, emptied_lists, emptied_fronts, emptied_none, emptied_most, emptied_last, emptied_end}
 use Rattle.nxt_heap.proofs.ListsKept.{same_length}
-use Rattle.nxt_heap.proofs.OneRow.{total_kept}
+use Rattle.nxt_heap.proofs.Searched.{searched_anew, searched_others}
+use Rattle.nxt_heap.proofs.OneRow.{others_kept, total_kept}
 use Rattle.nxt_heap.proofs.blocks.drop_bytes.Goals as goal
 use Rattle.nxt_heap.proofs.blocks.drop_bytes.Goals.{then-place-block, else-place-block}
 
@@ -99,6 +100,7 @@ returns-after-place-block-clause-length c =
           | else-place-block w ↦ rw w.at-is (emptied_end c.args.pool.now c.write_none.new.pool c.args.at.now.table c.args.at.now.base c.args.row b.is_pool l.above l.within l.alive c.write_none.ensures c.args.at.now.end b.end_is (λ f e. w.if-place-block.false (omega (arith, place, block, e))))
         ];
         footprint_is = omega (arith, b.footprint_is, block, most, own_none c.args.pool.now c.write_none.new.pool c.args.at.now.table c.args.at.now.base c.args.row b.is_pool l.above l.within l.alive c.write_none.ensures, total_kept c.args.pool.now c.write_none.new.pool c.args.at.now.table c.args.at.now.base c.args.row no_place 0 0 b.is_pool l.above l.within l.alive c.write_none.ensures);
+        searched = searched_anew c.write_none.new.pool c.args.at.now.table c.args.at.now.base c.args.at.now.sought (emptied_pool c.args.pool.now c.write_none.new.pool c.args.at.now.table c.args.at.now.base c.args.row b.is_pool l.above l.within l.alive c.write_none.ensures) b.word;
       };
       base = refl;
       lists = emptied_lists c.args.pool.now c.write_none.new.pool c.args.at.now.table c.args.at.now.base c.args.row b.is_pool l.above l.within l.alive c.write_none.ensures ∙ same_length c.args.pool.now c.args.at.now.table c.args.row 0 l.above l.within l.alive;
@@ -121,6 +123,11 @@ returns-else-block-gt0-clause-length c =
         are_fronts = emptied_none c.args.pool.now c.write_none.new.pool c.args.at.now.table c.args.at.now.base c.args.row b.is_pool l.above l.within l.alive c.write_none.ensures c.args.fronts.now b.are_fronts none;
         end_is = emptied_end c.args.pool.now c.write_none.new.pool c.args.at.now.table c.args.at.now.base c.args.row b.is_pool l.above l.within l.alive c.write_none.ensures c.args.at.now.end b.end_is (λ f e. none f);
         footprint_is = omega (arith, b.footprint_is, block, c.if-block-gt0.false, own_none c.args.pool.now c.write_none.new.pool c.args.at.now.table c.args.at.now.base c.args.row b.is_pool l.above l.within l.alive c.write_none.ensures, total_kept c.args.pool.now c.write_none.new.pool c.args.at.now.table c.args.at.now.base c.args.row no_place 0 0 b.is_pool l.above l.within l.alive c.write_none.ensures);
+        searched = searched_others c.args.pool.now c.write_none.new.pool c.args.at.now.table c.args.at.now.table c.args.at.now.base c.args.at.now.searched c.args.at.now.sought c.args.row c.write_none.ensures.size
+            (others_kept c.args.pool.now c.write_none.new.pool c.args.at.now.table c.args.at.now.base c.args.row no_place 0 0 b.is_pool l.above l.within l.alive c.write_none.ensures)
+            (λ f. absurd (none f))
+            (λ f. absurd (omega (arith, f.some, own_none c.args.pool.now c.write_none.new.pool c.args.at.now.table c.args.at.now.base c.args.row b.is_pool l.above l.within l.alive c.write_none.ensures)))
+            b.searched;
       };
       base = refl;
       lists = emptied_lists c.args.pool.now c.write_none.new.pool c.args.at.now.table c.args.at.now.base c.args.row b.is_pool l.above l.within l.alive c.write_none.ensures ∙ same_length c.args.pool.now c.args.at.now.table c.args.row 0 l.above l.within l.alive;

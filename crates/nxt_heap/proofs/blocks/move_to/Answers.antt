@@ -5,6 +5,7 @@ use Rattle.nxt_compact.specs.Steps.{moved_to}
 use Rattle.nxt_compact.proofs.Laws.Going.{first_full}
 use Rattle.nxt_heap.proofs.Begins.{table_inside}
 use Rattle.nxt_heap.proofs.AfterMoves.{total_moved}
+use Rattle.nxt_heap.proofs.Searched.{searched_anew}
 use Rattle.nxt_heap.proofs.IntoHole.{movable, into_pool, into_fronts, into_moved}
 use Rattle.nxt_heap.proofs.blocks.move_to.Goals as goal
 
@@ -33,7 +34,7 @@ pub end_after-at-requires-clause-moved : goal.end_after-at-requires-clause-moved
 end_after-at-requires-clause-moved c =
     let from : c.get-from.result.place ≡ (dope_row c.args.pool.now c.args.at.now.table c.args.row).place = ap (λ d. d.place) c.get-from.ensures in
     rw from (into_moved c.args.pool.now c.args.at.now.table c.args.at.now.base c.args.row c.args.place c.requires.blocks.is_pool c.requires.full c.requires.above c.requires.word c.requires.hole c.move_block.new.pool c.move_block.new.table (moves c)
-    (record { base = c.args.at.now.base; table = c.move_block.new.table; end = c.args.at.now.end; footprint = c.args.at.now.footprint }) refl c.requires.blocks.end_is)
+    (record c.args.at.now { table = c.move_block.new.table }) refl c.requires.blocks.end_is)
 
 pub returns : goal.returns
 returns c =
@@ -47,6 +48,7 @@ returns c =
         are_fronts = rw (from, c.word-2.ensures) (into_fronts c.args.pool.now c.args.at.now.table c.args.at.now.base c.args.row c.args.place b.is_pool c.requires.full c.requires.above c.requires.word c.requires.hole c.move_block.new.pool c.move_block.new.table m c.args.fronts.now b.are_fronts);
         end_is = c.end_after-at.ensures;
         footprint_is = omega (arith, b.footprint_is, total_moved c.args.at.now.base (moved_to (dope_row c.args.pool.now c.args.at.now.table c.args.row).place c.args.place) c.args.pool.now c.move_block.new.pool c.args.at.now.table c.move_block.new.table m b.is_pool.sound.some);
+        searched = searched_anew c.move_block.new.pool c.move_block.new.table c.args.at.now.base c.args.at.now.sought (into_pool c.args.pool.now c.args.at.now.table c.args.at.now.base c.args.row c.args.place b.is_pool c.requires.full c.requires.above c.requires.word c.requires.hole c.move_block.new.pool c.move_block.new.table m) b.word;
       };
       moves = m;
       base = refl;

@@ -8,9 +8,10 @@ use Rattle.nxt_compact.proofs.Laws.Opening.{before_most}
 use Rattle.nxt_compact.proofs.Laws.Shifted.{bytes_of_table}
 use Rattle.nxt_heap.specs.Inside.Pool.{row_bytes, AreBlocks}
 use Rattle.nxt_heap.proofs.Begins.{table_inside}
-use Rattle.nxt_heap.proofs.Lengthened.{longer_pool, longer_block, longer_fronts, longer_last, longer_most, longer_lists}
+use Rattle.nxt_heap.proofs.Lengthened.{longer_pool, longer_block, longer_fronts, longer_last, longer_most, longer_searched, longer_lists}
 use Rattle.nxt_heap.proofs.ListsKept.{same_length}
 use Rattle.nxt_heap.proofs.OneRow.{total_kept}
+use Rattle.nxt_heap.proofs.Searched.{searched_anew}
 use Rattle.nxt_heap.proofs.Settled.{total_below, end_inside}
 use Rattle.nxt_heap.proofs.Windows.{le-block}
 use Rattle.nxt_heap.proofs.blocks.set_length.Goals as goal
@@ -64,7 +65,7 @@ returns-clause-length c =
     let block : c.block_bytes-block.result ≡ block_bytes old = c.block_bytes-block.ensures ∙ ap block_bytes c.get.ensures in
     let small = le-block old in
     let own : 0 < row_bytes old → IsFull c.args.pool.now c.args.at.now.table c.args.row = λ some. record { within = l.within; some = omega (arith, some, small) } in
-    let blocks_as : AreBlocks c.write_length.new.pool (set c.args.fronts.now c.word.result c.args.row) (record { base = c.args.at.now.base; table = c.args.at.now.table; end = c.if-place-block.at; footprint = c.args.at.now.footprint + c.round4-room.result - c.block_bytes-block.result }) = record {
+    let blocks_as : AreBlocks c.write_length.new.pool (set c.args.fronts.now c.word.result c.args.row) (record c.args.at.now { end = c.if-place-block.at; footprint = c.args.at.now.footprint + c.round4-room.result - c.block_bytes-block.result; searched = c.still_searched-at.result }) = record {
       is_pool = longer_pool c.args.pool.now c.write_length.new.pool c.args.at.now.table c.args.at.now.base c.args.row c.args.place c.args.bytes b.is_pool l.above l.within l.alive c.requires.some (whole c.args.bytes (dope_row c.args.pool.now c.args.at.now.table c.args.row).stride l.whole) c.requires.room c.write_length.ensures.relists;
       word = b.word;
       are_fronts = rw c.word.ensures (longer_fronts c.args.pool.now c.write_length.new.pool c.args.at.now.table c.args.at.now.base c.args.row c.args.place c.args.bytes b.is_pool l.above l.within l.alive c.requires.some (whole c.args.bytes (dope_row c.args.pool.now c.args.at.now.table c.args.row).stride l.whole) c.requires.room c.write_length.ensures.relists c.args.fronts.now b.are_fronts);
@@ -81,6 +82,10 @@ returns-clause-length c =
         longer_block c.args.pool.now c.write_length.new.pool c.args.at.now.table c.args.at.now.base c.args.row c.args.place c.args.bytes b.is_pool l.above l.within l.alive c.requires.some (whole c.args.bytes (dope_row c.args.pool.now c.args.at.now.table c.args.row).stride l.whole) c.requires.room c.write_length.ensures.relists,
         total_kept c.args.pool.now c.write_length.new.pool c.args.at.now.table c.args.at.now.base c.args.row c.args.place (c.args.bytes / old.stride) (round4 c.args.bytes) b.is_pool l.above l.within l.alive c.write_length.ensures.relists,
       );
+      searched = elim c.still_searched-at.ensures [
+        | inl anew ↦ rw anew (searched_anew c.write_length.new.pool c.args.at.now.table c.args.at.now.base c.args.at.now.sought (longer_pool c.args.pool.now c.write_length.new.pool c.args.at.now.table c.args.at.now.base c.args.row c.args.place c.args.bytes b.is_pool l.above l.within l.alive c.requires.some (whole c.args.bytes (dope_row c.args.pool.now c.args.at.now.table c.args.row).stride l.whole) c.requires.room c.write_length.ensures.relists) b.word)
+        | inr still ↦ rw still.0 (longer_searched c.args.pool.now c.write_length.new.pool c.args.at.now.table c.args.at.now.base c.args.row c.args.place c.args.bytes b.is_pool l.above l.within l.alive c.requires.some (whole c.args.bytes (dope_row c.args.pool.now c.args.at.now.table c.args.row).stride l.whole) c.requires.room c.write_length.ensures.relists c.args.at.now.searched c.args.at.now.sought still.1 b.searched)
+      ];
     } in
     record {
       blocks = blocks_as;

@@ -4,6 +4,7 @@ use Rattle.nxt_compact.specs.Pools.{block_bytes, Moves, slid_in}
 use Rattle.nxt_heap.specs.Inside.Pool.{IsRoom}
 use Rattle.nxt_heap.proofs.Begins.{table_inside}
 use Rattle.nxt_heap.proofs.AfterMoves.{moved_count, total_moved}
+use Rattle.nxt_heap.proofs.Searched.{searched_anew}
 use Rattle.nxt_heap.proofs.Slid.{room_of, has_room, slid_pool, slid_room}
 use Rattle.nxt_heap.proofs.blocks.slide.Goals as goal
 
@@ -46,6 +47,7 @@ returns-clause-moves c =
         are_fronts = c.refresh-at.ensures.fronts;
         end_is = c.refresh-at.ensures.end;
         footprint_is = omega (arith, b.footprint_is, total_moved c.args.at.now.base to c.args.pool.now c.open_gap.new.pool c.args.at.now.table c.open_gap.new.table (slides c) b.is_pool.sound.some);
+        searched = searched_anew c.open_gap.new.pool c.open_gap.new.table c.args.at.now.base c.args.at.now.sought (slid_pool c.args.pool.now c.args.at.now.table c.args.at.now.base c.args.row c.args.bytes b.is_pool b.word c.requires.may c.requires.longer c.requires.full c.open_gap.new.pool c.open_gap.new.table (slides c)) b.word;
       };
       moves = slides c;
       base = refl;

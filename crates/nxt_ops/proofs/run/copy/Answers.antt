@@ -1,12 +1,14 @@
--- A value is stored by its flat form, whose lists are those of a part of the variables.
-use Rattle.std.proofs.Common.{Ok, sym, subst}
+-- A list of one kind is stored as it is, a cluster of numbers number by number, and any other value by its flat form.
+use Rattle.std.proofs.Common.{◌≡◌, true, ◌∷◌, [], IsSome, Ok, sym, subst}
 use Rattle.nxt_space.specs.Outcomes.{Does}
-use Rattle.nxt_space.specs.Variables.{value_of, with_value}
+use Rattle.nxt_types.specs.Shapes.{convertible}
+use Rattle.nxt_model.specs.Values.{stored}
+use Rattle.nxt_space.specs.Keeping.{Leaves}
+use Rattle.nxt_space.specs.Variables.{SpaceViews, AreSound, name_of, shape_of, value_of, with_value}
 use Rattle.nxt_space.specs.declared.fault.OpFault.TheVariants.{PoolPassed}
 use Rattle.nxt_operands.specs.Operands.{Done}
 use Rattle.nxt_operands.proofs.Laws.InPlace.{list_stored}
 use Rattle.nxt_operands.proofs.Laws.Refusals.{passed_on}
-use Rattle.nxt_operands.proofs.Laws.Stored.{copy_storable, spelled_stored}
 use Rattle.nxt_ops.proofs.run.copy.Goals as goal
 
 -- a list of the same kind is stored as it is
@@ -32,12 +34,26 @@ returns-in-Some-clause-does c =
     (sym same)
     (done.0, done.1, tt)
 
-pub store-requires-clause-countable : goal.store-requires-clause-countable
-store-requires-clause-countable c =
-    (copy_storable c.args.space.now.vars c.args.dest c.args.source c.in_ok-flat.flat c.requires.sound c.requires.dest c.requires.source c.requires.fit c.in_ok-flat.ensures).countable
+-- where no numbers were copied nothing has changed
+pub copy_flat-requires-clause-sound : goal.copy_flat-requires-clause-sound
+copy_flat-requires-clause-sound c = subst (λ (v : SpaceViews). AreSound v.vars) (sym (c.copy_numbers.ensures.same c.if-copy_numbers.false)) c.requires.sound
+
+pub copy_flat-requires-clause-dest : goal.copy_flat-requires-clause-dest
+copy_flat-requires-clause-dest c = subst (λ (v : SpaceViews). IsSome (name_of v.vars c.args.dest)) (sym (c.copy_numbers.ensures.same c.if-copy_numbers.false)) c.requires.dest
+
+pub copy_flat-requires-clause-source : goal.copy_flat-requires-clause-source
+copy_flat-requires-clause-source c = subst (λ (v : SpaceViews). IsSome (name_of v.vars c.args.source)) (sym (c.copy_numbers.ensures.same c.if-copy_numbers.false)) c.requires.source
+
+pub copy_flat-requires-clause-fit : goal.copy_flat-requires-clause-fit
+copy_flat-requires-clause-fit c =
+    subst (λ (v : SpaceViews). convertible (shape_of v.vars c.args.dest) (shape_of v.vars c.args.source) ≡ true) (sym (c.copy_numbers.ensures.same c.if-copy_numbers.false)) c.requires.fit
 
 pub returns-clause-does : goal.returns-clause-does
 returns-clause-does c =
-    let s = c.args.space.now.vars in
-    let e = copy_storable s c.args.dest c.args.source c.in_ok-flat.flat c.requires.sound c.requires.dest c.requires.source c.requires.fit c.in_ok-flat.ensures in
-    spelled_stored c.args.space.now c.store.new.space c.args.dest (value_of s c.args.source) c.in_ok-flat.flat c.store.result e c.store.ensures.does
+    subst
+    (λ (v : SpaceViews). Does {T = Unit {0}} Done (with_value v.vars c.args.dest (stored (shape_of v.vars c.args.dest) (value_of v.vars c.args.source))) v c.copy_flat.result c.copy_flat.new.space)
+    (c.copy_numbers.ensures.same c.if-copy_numbers.false)
+    c.copy_flat.ensures.does
+
+pub returns-clause-leaves : goal.returns-clause-leaves
+returns-clause-leaves c = subst (λ v. Leaves (c.args.dest ∷ []) v c.copy_flat.new.space) (c.copy_numbers.ensures.same c.if-copy_numbers.false) c.copy_flat.ensures.leaves

@@ -46,8 +46,8 @@ returns-in_err-check_room-clause-does c d =
 pub add_bodies-requires-clause-text : goal.add_bodies-requires-clause-text
 add_bodies-requires-clause-text c = spot_kind c.args.space.now.vars c.args.dest c.in-Some.list c.in-Some.ensures.0 c.requires.text
 
-pub returns-in-Some-clause-does : goal.returns-in-Some-clause-does
-returns-in-Some-clause-does c =
+pub returns-then-branch-le-POOL_BYTES-clause-does : goal.returns-then-branch-le-POOL_BYTES-clause-does
+returns-then-branch-le-POOL_BYTES-clause-does c =
     let s = c.args.space.now.vars in
     let others = c.in-Some.others.now in
     let own = body_at s c.args.dest in
