@@ -72,6 +72,13 @@ impl Clumps {
         self.state.first()
     }
 
+    /// Whether no other clump is queued beside the one that runs.
+    pub fn is_alone(&self) -> bool
+        ensures { result ≡ (length self.now.state.queue == 1) }
+    {
+        self.state.is_alone()
+    }
+
     /// How many bytecodes of the turn are done.
     pub fn turn(&self) -> u32
         ensures turn { result ≡ self.now.state.turn }

@@ -90,6 +90,13 @@ impl State {
         self.queue.front().copied()
     }
 
+    /// Whether one clump alone is queued.
+    pub fn is_alone(&self) -> bool
+        ensures { result ≡ (length self.now.queue == 1) }
+    {
+        self.queue.len() == 1
+    }
+
     pub fn turn(&self) -> u8
         ensures turn { result ≡ self.now.turn }
         ensures short { result ≤ 20 }

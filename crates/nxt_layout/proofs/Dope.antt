@@ -24,6 +24,8 @@ pub mod Spans
 pub mod InOrder
 -- Places that are kept at most twice tell the same of the numbers that stand there.
 pub mod Places
+-- The names of single rows, joined, are those that all their numbers name.
+pub mod Joined
 -- What is kept of rows stays right with one more.
 pub mod Kept
 -- The first pair of spans that share a byte.

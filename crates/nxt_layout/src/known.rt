@@ -2,13 +2,13 @@
 
 ghost use Rattle.std.specs.Prelude.{◌≡◌, ◌<◌, ◌≤◌, ◌^◌, [], ◌∷◌, flat_map, length, IfOk, OnOk};
 ghost use Rattle.std.specs.Rc.{rc_slice_items};
-ghost use Rattle.nxt_layout.specs.Rows.{elements_of};
+ghost use Rattle.nxt_layout.specs.Rows.{Ground, elements_of};
 ghost use Rattle.nxt_layout.specs.Inside.RowPasses.{ground_of, IsCounted};
-ghost use Rattle.nxt_layout.specs.Inside.Known.{ArePlaced, IsFoundIn, IsKnown, IsSame, IsToldBy};
+ghost use Rattle.nxt_layout.specs.Inside.Known.{AreNamed, ArePlaced, IsFoundIn, IsKnown, IsSame, IsToldBy};
 
+use crate::by_row::NamesByRow;
 use crate::dataspace::Dataspace;
 use crate::named_rows::NamedRows;
-use crate::places::places_of;
 use crate::strides::read_rows;
 use nxt_types::NoMemory;
 use std::alloc::Global;
@@ -25,8 +25,25 @@ pub struct Found {
     pub beyond: bool,
 }
 
-/// What is found, by the place, the bytes of an element, and the rows whose elements have the numbers.
-pub type Known = BTreeMap<(u32, u32, RcSlice<u16>), Found>;
+/// What is found, by the place, the bytes of an element, and the rows whose elements have the numbers; and what single rows
+/// name.
+#[derive(Drop)]
+pub struct Known {
+    found: BTreeMap<(u32, u32, RcSlice<u16>), Found>,
+    names: NamesByRow,
+}
+
+impl Known {
+    /// Nothing.
+    pub fn new(alloc: Global) -> Known
+        ensures { (g : Ground) → IsKnown g result }
+    {
+        Known {
+            found: BTreeMap::new(alloc),
+            names: NamesByRow::new(alloc),
+        }
+    }
+}
 
 /// What the number outside of all elements tells.
 pub fn found_outside(
@@ -60,18 +77,26 @@ pub fn found_in(
     ensures known { OnOk result (IsKnown (ground_of space.now) known.new) }
 {
     let key = (place, bytes, rows.clone()?);
-    if let Some(found) = known.get(&key) {
+    if let Some(found) = known.found.get(&key) {
         return found.share();
     }
-    let found = found_anew(alloc, space, rows.as_slice(), place, bytes)?;
+    let found = found_anew(
+        alloc,
+        space,
+        &mut known.names,
+        rows.as_slice(),
+        place,
+        bytes,
+    )?;
     let shared = found.share()?;
-    let _none = known.insert(key, found)?;
+    let _none = known.found.insert(key, found)?;
     Ok(shared)
 }
 
 fn found_anew(
     alloc: Global,
     space: &Dataspace,
+    names: &mut NamesByRow,
     rows: &[u16],
     place: u32,
     bytes: u32,
@@ -79,12 +104,12 @@ fn found_anew(
     requires place { place < 2 ^ 16 }
     requires few { length rows.now ≤ 2 ^ 17 }
     requires placed { ArePlaced (ground_of space.now) rows.now }
-    ensures { IfOk result (IsFoundIn (ground_of space.now) place bytes (flat_map (elements_of (ground_of space.now)) rows.now)) }
+    requires named { AreNamed (ground_of space.now) names.old.names }
+    ensures found { IfOk result (IsFoundIn (ground_of space.now) place bytes (flat_map (elements_of (ground_of space.now)) rows.now)) }
+    ensures named { OnOk result (AreNamed (ground_of space.now) names.new.names) }
 {
-    let mut names = NamedRows::new(alloc, space.rows())?;
     let lists = elements(space, rows);
-    let places = places_of(alloc, space, rows, lists)?;
-    names.take_at(space, places.as_slice(), place)?;
+    let names = names.names_in(alloc, space, rows, place, lists)?;
     found_of(alloc, space, names, lists, bytes)
 }
 

@@ -2,6 +2,7 @@
 //! rules of the table are those of `nxt_table` ("LEGO MINDSTORMS NXT Executable File Specification", "Dope Vectors").
 #![tactic(auto)]
 
+mod by_row;
 mod dataspace;
 pub mod fault;
 mod known;

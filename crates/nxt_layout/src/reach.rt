@@ -12,7 +12,7 @@ use nxt_table::item::Item;
 use nxt_table::leaves::{PlacedLeaf, width};
 use nxt_types::NoMemory;
 use std::alloc::Global;
-use std::collections::{BTreeMap, VecDeque};
+use std::collections::VecDeque;
 use std::rc::RcSlice;
 
 /// What is found through an array's entry: the bytes of its element, the rows that its lists name, each at most twice, how
@@ -74,7 +74,7 @@ pub fn arrays_of(
     ensures count { IfOk result (λ arrays. length arrays.items ≤ length leaves.now) }
     ensures found { IfOk result (λ arrays. map through arrays.items ≡ through_from (ground_of space.now) (slice_index extents.now) [] (array_leaves leaves.now)) }
 {
-    let mut known: Known = BTreeMap::new(alloc);
+    let mut known = Known::new(alloc);
     let mut stack: VecDeque<OpenArray> = VecDeque::new(alloc);
     let mut arrays: Vec<ArrayRows> = Vec::new(alloc);
     for leaf in leaves {

@@ -1,26 +1,69 @@
 // The texts of lines. A private function adds to the end of a text. After an `Err` the text begins with what it held
 // before, and a part of the line may stand behind that.
 
-ghost use Rattle.std.specs.Prelude.{◌≡◌, ◌++◌, ◌∷◌, [], map, length, take, decimal, OnOk, OnErr, IfOk};
+ghost use Rattle.std.specs.Prelude.{◌≡◌, ◌≤◌, ◌+◌, ◌++◌, drop, ◌∷◌, [], map, length, take, decimal, OnOk, OnErr, IfOk};
 ghost use Rattle.nxt_model.specs.LineText.{line_text as text_of, line_of, fields_then, hex_text};
 ghost use Rattle.nxt_model.specs.Means.Text.{number_text};
 
 use crate::line::{Line, Stop};
-use itoa::Buffer;
+use itoa::{Buffer, write_digits};
 use nxt_types::{Bytes, NoMemory};
 use std::alloc::Global;
 
-// Adds a comma and a number, most of which have one digit.
-fn push_number(number: i64, into: &mut Bytes) -> Result<(), NoMemory>
-    ensures ok { OnOk result (into.new ≡ into.old ++ 44 ∷ number_text number) }
-    ensures err { OnErr result (take (length into.old) into.new ≡ into.old) }
+// How many fields are written at once.
+const PIECE: usize = 8;
+
+// The bytes that a field of a number takes at most: a comma, a sign and 20 digits.
+const FIELD: usize = 22;
+
+// Room for as many fields.
+const ROOM: usize = PIECE * FIELD;
+
+// Writes a number so that it ends at a place, and gives the place where it starts.
+#[inline(always)]
+fn write_number(number: i64, buffer: &mut [u8], end: usize) -> usize
+    requires room { 21 ≤ end }
+    requires within { end ≤ length buffer.old }
+    ensures start { end ≤ result + 21 }
+    ensures within { result ≤ end }
+    ensures written { drop result buffer.new ≡ number_text number ++ drop end buffer.old }
 {
-    if let Ok(digit @ 0..=9) = u8::try_from(number) {
-        return into.append(&[b',', b'0' + digit]);
+    let start = write_digits(number.unsigned_abs(), buffer, end);
+    if number < 0 {
+        buffer[start - 1] = b'-';
+        return start - 1;
     }
-    let mut buffer = Buffer::new();
-    into.push(b',')?;
-    into.append(buffer.format(number).as_bytes())
+    start
+}
+
+// Writes a comma and a number so that they end at a place, and gives the place where they start.
+#[inline(always)]
+fn write_field(number: i64, buffer: &mut [u8], end: usize) -> usize
+    requires room { FIELD ≤ end }
+    requires within { end ≤ length buffer.old }
+    ensures start { end ≤ result + FIELD }
+    ensures within { result ≤ end }
+    ensures written { drop result buffer.new ≡ 44 ∷ number_text number ++ drop end buffer.old }
+{
+    let start = write_number(number, buffer, end);
+    buffer[start - 1] = b',';
+    start - 1
+}
+
+// Adds a comma and a number for each of a few numbers. They are written from the last to the first.
+fn push_fields(numbers: &[i64], into: &mut Bytes) -> Result<(), NoMemory>
+    requires { length numbers.now ≤ PIECE }
+    ensures ok { OnOk result (into.new ≡ into.old ++ fields_then (map number_text numbers.now) []) }
+    ensures err { OnErr result (into.new ≡ into.old) }
+{
+    let mut buffer = [0u8; ROOM];
+    let mut start = ROOM;
+    let mut left = numbers.len();
+    while left > 0 {
+        left -= 1;
+        start = write_field(numbers[left], &mut buffer, start);
+    }
+    into.append(&buffer[start..])
 }
 
 // Adds a name, numbers behind it, and what stands behind these.
@@ -29,8 +72,11 @@ fn numbers_then(name: &[u8], numbers: &[i64], last: &[u8], into: &mut Bytes) -> 
     ensures err { OnErr result (take (length into.old) into.new ≡ into.old) }
 {
     into.append(name)?;
-    for number in numbers {
-        push_number(*number, into)?;
+    let mut start = 0;
+    while start < numbers.len() {
+        let end = numbers.len().min(start + PIECE);
+        push_fields(&numbers[start..end], into)?;
+        start = end;
     }
     into.append(last)
 }

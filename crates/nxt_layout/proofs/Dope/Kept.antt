@@ -10,8 +10,10 @@ use Rattle.std.specs.FinMap.{nat_cmp-IsAntisymmetric, slice_cmp-IsAntisymmetric}
 use Rattle.std.specs.Ordering.{nat_cmp, ordering_then, is_eq, eq_by_cmp}
 use Rattle.std.specs.Rc.{rc_slice_items}
 use Rattle.nxt_layout.specs.declared.known.Found.{Found}
+use Rattle.nxt_layout.specs.declared.named_rows.NamedRows.{NamedRows}
 use Rattle.nxt_layout.specs.Rows.{Ground, elements_of}
-use Rattle.nxt_layout.specs.Inside.Known.{Key, key_cmp, IsFoundIn, IsKnown}
+use Rattle.nxt_layout.specs.Inside.RowPasses.{numbers_in}
+use Rattle.nxt_layout.specs.Inside.Known.{Key, key_cmp, IsFoundIn, AreFound, RowKey, row_key_cmp, IsNaming, AreNamed}
 
 equal_is : (o : Ordering) → is_eq o ≡ true → o ≡ Equal
 equal_is Less e = let f : true ≡ false = sym e in cc
@@ -38,8 +40,8 @@ key_found g k q f e found =
     (subst (λ rs. IsFoundIn g k.0 k.1 (flat_map (elements_of g) rs) f) rows found))
 
 -- with what is found for one key more
-pub known_more : (g : Ground) (old new : BTreeMap Key Found Global) (k : Key) (f : Found) → IsKnown g old → IsFoundIn g k.0 k.1 (flat_map (elements_of g) (rc_slice_items k.2)) f → ((q : Key) → get key_cmp new q ≡ cond (eq_by_cmp key_cmp k q) (Some f) (get key_cmp old q)) → IsKnown g new
-known_more g old new k f known found updates q x e = at (eq_by_cmp key_cmp k q) refl
+pub found_more : (g : Ground) (old new : BTreeMap Key Found Global) (k : Key) (f : Found) → AreFound g old → IsFoundIn g k.0 k.1 (flat_map (elements_of g) (rc_slice_items k.2)) f → ((q : Key) → get key_cmp new q ≡ cond (eq_by_cmp key_cmp k q) (Some f) (get key_cmp old q)) → AreFound g new
+found_more g old new k f known found updates q x e = at (eq_by_cmp key_cmp k q) refl
   where
     at : (b : Bool) → eq_by_cmp key_cmp k q ≡ b → IsFoundIn g q.0 q.1 (flat_map (elements_of g) (rc_slice_items q.2)) x
     at true t =
@@ -47,3 +49,23 @@ known_more g old new k f known found updates q x e = at (eq_by_cmp key_cmp k q) 
         let same : f ≡ x = cc in
         subst (IsFoundIn g q.0 q.1 (flat_map (elements_of g) (rc_slice_items q.2))) same (key_found g k q f (equal_is (key_cmp k q) t) found)
     at false t = known q x (sym (ap (λ b. cond b (Some f) (get key_cmp old q)) t) ∙ sym (updates q) ∙ e)
+
+-- what the elements of a row name is named for an equal key
+key_named : (g : Ground) (k q : RowKey) (n : NamedRows) → row_key_cmp k q ≡ Equal → IsNaming g (numbers_in g k.0 (elements_of g k.1)) n → IsNaming g (numbers_in g q.0 (elements_of g q.1)) n
+key_named g k q n e named =
+    let both = both_equal (nat_cmp k.0 q.0) (nat_cmp k.1 q.1) e in
+    subst
+    (λ place. IsNaming g (numbers_in g place (elements_of g q.1)) n)
+    (nat_cmp-IsAntisymmetric k.0 q.0 both.0)
+    (subst (λ r. IsNaming g (numbers_in g k.0 (elements_of g r)) n) (nat_cmp-IsAntisymmetric k.1 q.1 both.1) named)
+
+-- with the names of one row more
+pub named_more : (g : Ground) (old new : BTreeMap RowKey NamedRows Global) (k : RowKey) (n : NamedRows) → AreNamed g old → IsNaming g (numbers_in g k.0 (elements_of g k.1)) n → ((q : RowKey) → get row_key_cmp new q ≡ cond (eq_by_cmp row_key_cmp k q) (Some n) (get row_key_cmp old q)) → AreNamed g new
+named_more g old new k n names named updates q x e = at (eq_by_cmp row_key_cmp k q) refl
+  where
+    at : (b : Bool) → eq_by_cmp row_key_cmp k q ≡ b → IsNaming g (numbers_in g q.0 (elements_of g q.1)) x
+    at true t =
+        let one : Some n ≡ Some x = sym (ap (λ b. cond b (Some n) (get row_key_cmp old q)) t) ∙ sym (updates q) ∙ e in
+        let same : n ≡ x = cc in
+        subst (IsNaming g (numbers_in g q.0 (elements_of g q.1))) same (key_named g k q n (equal_is (row_key_cmp k q) t) named)
+    at false t = names q x (sym (ap (λ b. cond b (Some n) (get row_key_cmp old q)) t) ∙ sym (updates q) ∙ e)

@@ -158,7 +158,7 @@ one_alike rows n others true =
     (alike_same ((rows ++ n ∷ []) ++ others) (rows ++ n ∷ others) (append_assoc rows (n ∷ []) others))
 one_alike rows n others false = λ p. refl
 
-all_alike : (g : Ground) (ns rows : List ℕ) → AreAlike (fold (with_number g) rows ns) (rows ++ filter (names_row g) ns)
+pub all_alike : (g : Ground) (ns rows : List ℕ) → AreAlike (fold (with_number g) rows ns) (rows ++ filter (names_row g) ns)
 all_alike g [] rows = alike_same rows (rows ++ []) (sym (append-nil rows))
 all_alike g (n ∷ ns) rows =
     alike_then
@@ -206,7 +206,7 @@ all_named : (g : Ground) (ns rows : List ℕ) → Each (λ r. names_row g r ≡ 
 all_named g [] rows h = h
 all_named g (n ∷ ns) rows h = all_named g ns (with_number g rows n) (one_named g rows n (names_row g n) refl h)
 
-kept_below : (g : Ground) (ns : List ℕ) → Each (λ r. r < row_count g.memory) (kept_of g ns)
+pub kept_below : (g : Ground) (ns : List ℕ) → Each (λ r. r < row_count g.memory) (kept_of g ns)
 kept_below g ns =
     each_then
     (λ r. names_row g r ≡ true)

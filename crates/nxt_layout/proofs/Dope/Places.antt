@@ -171,7 +171,7 @@ keep_alike (x ∷ xs) ks =
     (alike-append (keep_twice ks x) (ks ++ x ∷ []) xs xs (kept_alike ks x (nat_lt (times x ks) 2) refl) (λ p. refl))
     (alike_same ((ks ++ x ∷ []) ++ xs) (ks ++ x ∷ xs) (append_assoc ks (x ∷ []) xs)))
 
-two_capped : (a b : ℕ) → cap a ≡ cap b → 2 ≤ b → 2 ≤ a
+pub two_capped : (a b : ℕ) → cap a ≡ cap b → 2 ≤ b → 2 ≤ a
 two_capped a b e h = omega (arith, e, h)
 
 -- a number at a place that is there twice is taken twice

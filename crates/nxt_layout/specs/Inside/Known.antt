@@ -10,11 +10,13 @@ use Rattle.std.specs.List.{list_any}
 use Rattle.std.specs.Ordering.{nat_cmp, ordering_then}
 use Rattle.std.specs.Rc.{rc_slice_items}
 use Rattle.nxt_layout.specs.declared.known.Found.{Found}
+use Rattle.nxt_layout.specs.declared.known.Known.{Known}
 use Rattle.nxt_layout.specs.declared.named_rows.NamedRows.{NamedRows}
 use Rattle.nxt_layout.specs.declared.places.Places.{Places}
 use Rattle.nxt_layout.specs.declared.reach.OpenArray.{OpenArray}
+use Rattle.nxt_model.specs.Reading.{row_count}
 use Rattle.nxt_layout.specs.Rows.{Ground, is_placed, is_beyond, read_by, elements_of}
-use Rattle.nxt_layout.specs.Inside.RowPasses.{times, ordered, rows_of, numbers_in}
+use Rattle.nxt_layout.specs.Inside.RowPasses.{times, kept_of, ordered, rows_of, numbers_in, IsCounted}
 
 -- the rows lie in the dataspace
 abbrev pub ArePlaced : Ground → List ℕ → Type 0
@@ -63,6 +65,36 @@ key_cmp x y =
     ordering_then (ordering_then (nat_cmp x.0 y.0) (nat_cmp x.1 y.1)) (slice_cmp nat_cmp (rc_slice_items x.2) (rc_slice_items y.2))
 
 -- what is kept is what the elements of the rows tell
-abbrev pub IsKnown : Ground → BTreeMap Key Found Global → Type 0
-IsKnown g known =
-    (k : Key) (f : Found) → get key_cmp known k ≡ Some f → IsFoundIn g k.0 k.1 (flat_map (elements_of g) (rc_slice_items k.2)) f
+abbrev pub AreFound : Ground → BTreeMap Key Found Global → Type 0
+AreFound g found =
+    (k : Key) (f : Found) → get key_cmp found k ≡ Some f → IsFoundIn g k.0 k.1 (flat_map (elements_of g) (rc_slice_items k.2)) f
+
+-- ---- single rows
+
+-- these are the rows that these numbers name
+pub record IsNaming (g : Ground) (numbers : List ℕ) (n : NamedRows) : Type 0 where
+  pub rows : n.rows.items ≡ kept_of g numbers
+  pub beyond : n.beyond ≡ list_any (is_beyond g) numbers
+  pub counted : IsCounted n
+  pub table : n.table_rows ≡ row_count g.memory
+
+-- those at a place in the elements of these rows
+abbrev pub IsNamingIn : Ground → ℕ → List ℕ → NamedRows → Type 0
+IsNamingIn g place rows n = IsNaming g (numbers_in g place (flat_map (elements_of g) rows)) n
+
+-- a place and a row
+abbrev pub RowKey : Type 0
+RowKey = ℕ × ℕ
+
+abbrev pub row_key_cmp : RowKey → RowKey → Ordering
+row_key_cmp x y = ordering_then (nat_cmp x.0 y.0) (nat_cmp x.1 y.1)
+
+-- what is kept is what the elements of the row name
+abbrev pub AreNamed : Ground → BTreeMap RowKey NamedRows Global → Type 0
+AreNamed g names =
+    (k : RowKey) (n : NamedRows) → get row_key_cmp names k ≡ Some n → IsNaming g (numbers_in g k.0 (elements_of g k.1)) n
+
+-- all that is kept is right
+pub record IsKnown (g : Ground) (known : Known) : Type 0 where
+  pub found : AreFound g known.found
+  pub named : AreNamed g known.names.names

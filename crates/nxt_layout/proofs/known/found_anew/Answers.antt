@@ -1,27 +1,20 @@
--- The numbers at the places that are kept tell what all of them tell.
-use Rattle.std.proofs.Common.{rules, ◌<◌, ◌^◌, flat_map, subst, ◌∙◌}
+-- The names in the elements tell what is found.
+use Rattle.std.proofs.Common.{rules, ◌<◌, ◌^◌, arith, flat_map}
 use Rattle.std.proofs.lemmas.Result.{IfOk-weaker}
 use Rattle.nxt_model.specs.Reading.{row_count}
 use Rattle.nxt_layout.specs.Rows.{elements_of}
-use Rattle.nxt_layout.specs.Inside.RowPasses.{ground_of, numbers_in, Takes}
-use Rattle.nxt_layout.proofs.Dope.Through.{told_in}
-use Rattle.nxt_layout.proofs.Dope.Places.{takes_all}
+use Rattle.nxt_layout.specs.Inside.RowPasses.{ground_of}
+use Rattle.nxt_layout.proofs.Dope.Through.{told_naming}
 use Rattle.nxt_layout.proofs.known.found_anew.Goals as goal
 
-pub returns : goal.returns
-returns c =
+pub returns-clause-found : goal.returns-clause-found
+returns-clause-found c =
     let g = ground_of c.args.space.now in
-    let place = c.args.place in
     let all = flat_map (elements_of g) c.args.rows.now in
     let names = c.in_ok-names.names in
-    let none = c.in_ok-names.ensures.rows in
-    let places = c.as_slice.ensures.value ∙ c.in_ok-places.ensures.places in
-    let takes : Takes g (numbers_in g place all) names c.take_at.new.self =
-    takes_all g place all names c.take_at.new.self none
-    (subst (λ ps. Takes g (numbers_in g place ps) names c.take_at.new.self) places c.in_ok-take_at.ensures)
-    in
-    let table = c.in_ok-names.ensures.table ∙ c.rows.ensures in
-    let few : row_count g.memory < 2 ^ 16 = search rules in
+    let naming = c.in_ok-names.ensures.names in
+    let fits : names.table_rows < 2 ^ 16 = search rules in
+    let few : row_count g.memory < 2 ^ 16 = omega (arith, fits, naming.table) in
     IfOk-weaker c.found_of.result _ _
-    (λ f told. told_in g place c.args.bytes all names c.take_at.new.self c.elements-lists.result f none c.in_ok-names.ensures.beyond takes c.elements-lists.ensures.count c.elements-lists.ensures.bound few table told)
+    (λ f told. told_naming g c.args.place c.args.bytes all names c.elements-lists.result f naming c.elements-lists.ensures.count c.elements-lists.ensures.bound few told)
     c.found_of.ensures

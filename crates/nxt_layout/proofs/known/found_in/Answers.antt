@@ -6,7 +6,7 @@ use Rattle.nxt_layout.specs.Rows.{elements_of}
 use Rattle.nxt_layout.specs.Inside.RowPasses.{ground_of}
 use Rattle.nxt_layout.specs.Inside.Known.{Key, IsFoundIn}
 use Rattle.nxt_layout.proofs.Dope.Through.{same_found}
-use Rattle.nxt_layout.proofs.Dope.Kept.{known_more}
+use Rattle.nxt_layout.proofs.Dope.Kept.{found_more}
 use Rattle.nxt_layout.proofs.known.found_in.Goals as goal
 
 pub returns-in-Some-clause-found : goal.returns-in-Some-clause-found
@@ -16,7 +16,7 @@ returns-in-Some-clause-found c =
     let found = c.in-Some.found.now in
     let rows : rc_slice_items key.2 ≡ rc_slice_items c.args.rows.now = c.in_ok-clone.ensures.cases in
     let right : IsFoundIn g key.0 key.1 (flat_map (elements_of g) (rc_slice_items key.2)) found =
-    c.requires.known key found (sym c.in-Some.ensures.value) in
+    c.requires.known.found key found (sym c.in-Some.ensures.value) in
     IfOk-weaker c.share.result _ _
     (λ f same. same_found g c.args.place c.args.bytes _ found f same (subst (λ rs. IsFoundIn g c.args.place c.args.bytes (flat_map (elements_of g) rs) found) rows right))
     c.share.ensures
@@ -28,5 +28,8 @@ returns-clause-known c =
     let found = c.in_ok-found.found in
     let rows : c.as_slice.result.now ≡ rc_slice_items key.2 = c.as_slice.ensures.value ∙ sym c.in_ok-clone.ensures.cases in
     let right : IsFoundIn g key.0 key.1 (flat_map (elements_of g) (rc_slice_items key.2)) found =
-    subst (λ rs. IsFoundIn g c.args.place c.args.bytes (flat_map (elements_of g) rs) found) rows c.in_ok-found.ensures in
-    known_more g c.args.known.now c.insert.new.self key found c.requires.known right c.in_ok-_none.ensures.updates.0
+    subst (λ rs. IsFoundIn g c.args.place c.args.bytes (flat_map (elements_of g) rs) found) rows c.in_ok-found.ensures.found in
+    record {
+      found = found_more g c.args.known.now.found c.insert.new.self key found c.requires.known.found right c.in_ok-_none.ensures.updates.0;
+      named = c.in_ok-found.ensures.named;
+    }

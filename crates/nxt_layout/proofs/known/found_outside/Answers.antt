@@ -11,7 +11,7 @@ zero_more : (n : ℕ) → n ≡ 0 + n
 zero_more n = omega arith
 
 pub found_of-requires : goal.found_of-requires
-found_of-requires c = (c.in_ok-take.ensures (ground_of c.args.space.now) (c.in_ok-names.ensures.table ∙ c.rows.ensures)).counted
+found_of-requires c = (c.in_ok-take.ensures.taken (ground_of c.args.space.now) (c.in_ok-names.ensures.table ∙ c.rows.ensures)).counted
 
 pub returns : goal.returns
 returns c =
@@ -24,7 +24,7 @@ returns c =
     subst
     (λ n. Takes g (n ∷ []) names c.take.new.self)
     (c.number_at.ensures ∙ ap (u16_at g.memory.bytes) (zero_more place))
-    (c.in_ok-take.ensures g table)
+    (c.in_ok-take.ensures.taken g table)
     in
     let one : 1 ≤ 2 ^ 33 = omega arith in
     let few : row_count g.memory < 2 ^ 16 = search rules in

@@ -19,6 +19,15 @@ HasFew a = a.lists ≤ 2 ^ 33
 pub rows_through-requires-clause-open : goal.rows_through-requires-clause-open
 rows_through-requires-clause-open c = c.close.ensures.open (ground_of c.args.space.now) c.loop-leaf.invariant.open_still
 
+pub loop-leaf-init : goal.loop-leaf-init
+loop-leaf-init c = record {
+  found = search rules;
+  open_still = search rules;
+  known = c.new-known.ensures (ground_of c.args.space.now);
+  lists = search rules;
+  count = search rules;
+}
+
 pub loop-leaf-preserved : goal.loop-leaf-preserved
 loop-leaf-preserved c =
     let g = ground_of c.args.space.now in

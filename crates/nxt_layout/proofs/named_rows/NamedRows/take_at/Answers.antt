@@ -19,7 +19,7 @@ loop-at-preserved c =
     let left = c.loop-at.invariant in
     left_less g all (u16_at g.memory.bytes (here + place) ∷ []) rest c.args.self.now c.loop-at.self c.take.new.self
     (subst (λ xs. IsLeft g all (numbers_in g place xs) c.args.self.now c.loop-at.self) (drop_more places k 0 c.loop-at-test.true) left)
-    (subst (λ n. Takes g (n ∷ []) c.loop-at.self c.take.new.self) c.number_at.ensures (c.in_ok-take.ensures g (left.table ∙ c.requires.table)))
+    (subst (λ n. Takes g (n ∷ []) c.loop-at.self c.take.new.self) c.number_at.ensures (c.in_ok-take.ensures.taken g (left.table ∙ c.requires.table)))
 
 pub returns : goal.returns
 returns c =
