@@ -5,8 +5,8 @@ Two files have a table of 49,000 entries: they share no byte, or the last stands
 65,000 code words with a jump in each second statement: each lands on a statement, or the last lands inside one. Two have
 21,000 movs of a cluster: one of 24,000 members to itself, or one of 12,000 to another. Three have a list of 2,000 or 5,000
 lists of a byte each: they share no byte, the last two share theirs, or all share one. In one lists stand eight deep, and each
-of 3,000 elements names the same next list. In the rest many variables or many rows name the same overlapping rows. Prints the
-seconds and the line of each.
+of 3,000 elements names the same next list. In six clusters of lists stand in the elements of many rows, which are others in
+each cluster. In the rest many variables or many rows name the same overlapping rows. Prints the seconds and the line of each.
 """
 import os
 import struct
@@ -143,6 +143,19 @@ def pairs_file(variables, width):
     return rows_file(entries, range(1, variables + 1), rows, struct.pack("<%dH" % len(names), *names) + bytes(2 * count))
 
 
+def members_file(clusters, members, rows, read, step):
+    """Lists of lists of a cluster of so many lists. Each variable reads it in so many of these rows, from another one on."""
+    inner = [entry for j in range(members) for entry in nest(1, 2 * j)]
+    entries = [entry for i in range(clusters) for entry in [(7, 2 * i), (7, 0), (8, members)] + inner]
+    names = [clusters + 1 + i % rows for i in range(clusters + read)]
+    behind = 2 * len(names)
+    count = (65000 - 2 * clusters - 10 * (clusters + rows + 1) - behind) // 2
+    outer = [(2 * i, 2, read) for i in range(clusters)]
+    outer += [(behind + step * r, 2 * members, (2 * count - step * r) // (2 * members)) for r in range(rows)]
+    numbers = names + [1 + i % (clusters + rows - 2) for i in range(count)]
+    return rows_file(entries, range(1, clusters + 1), outer, struct.pack("<%dH" % len(numbers), *numbers))
+
+
 FILES = (
     ("49,000 entries apart", table_file(ENTRIES - 1)),
     ("their last pair overlaps", table_file(ENTRIES - 2)),
@@ -168,6 +181,12 @@ FILES = (
     ("10,000 on 1,000 rows", full_file(10000, 3, 1000, 2, lambda i: 1 + i % 1000)),
     ("5,000 on 2,000 rows", full_file(5000, 8, 2000, 2, lambda i: 1 + i % 2000)),
     ("16,000 pairs of rows", pairs_file(50, 320)),
+    ("8 clusters of 1,000 lists", members_file(8, 1000, 1000, 900, 2)),
+    ("120 clusters of 40 lists", members_file(120, 40, 600, 100, 1)),
+    ("560 clusters of 40 lists", members_file(560, 40, 60, 60, 1)),
+    ("22 clusters of 1,000 lists", members_file(22, 1000, 900, 900, 1)),
+    ("70 clusters of 320 lists", members_file(70, 320, 320, 320, 1)),
+    ("1,000 clusters of 20 lists", members_file(1000, 20, 500, 500, 1)),
 )
 
 

@@ -30,3 +30,7 @@ pub mod Joined
 pub mod Kept
 -- The first pair of spans that share a byte.
 pub mod FirstOverlap
+-- What 64 places one behind another tell, number by number.
+pub mod Lanes
+-- What they tell names the rows in order.
+pub mod LaneNames

@@ -4,5 +4,7 @@
 pub mod RowPasses
 -- What is found in the elements of rows, and kept for the next time.
 pub mod Known
+-- What numbers at 64 places one behind another in elements name, a bit for each place.
+pub mod Lanes
 -- The passes that find the first fault of the rows and of the pool.
 pub mod Passes

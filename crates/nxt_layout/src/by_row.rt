@@ -4,11 +4,12 @@ ghost use Rattle.std.specs.Prelude.{◌≡◌, ◌<◌, ◌^◌, IfOk, IfSome, O
 ghost use Rattle.nxt_model.specs.Reading.{row_count};
 ghost use Rattle.nxt_layout.specs.Rows.{Ground, elements_of};
 ghost use Rattle.nxt_layout.specs.Inside.RowPasses.{ground_of, numbers_in, IsCounted, Takes};
-ghost use Rattle.nxt_layout.specs.Inside.Known.{ArePlaced, AreNamed, IsNaming, IsNamingIn};
+ghost use Rattle.nxt_layout.specs.Inside.Known.{ArePlaced, IsNaming, IsNamingIn, IsOrderedIn, KnowsRows};
 
 use crate::dataspace::Dataspace;
-use crate::named_rows::NamedRows;
-use crate::places::places_of;
+use crate::named_rows::{NamedRows, OrderedRows};
+use crate::places::MOST_PLACES;
+use crate::walked::WalkedRows;
 use nxt_types::NoMemory;
 use std::alloc::Global;
 use std::collections::BTreeMap;
@@ -26,27 +27,31 @@ const MOST_JOINED: usize = 65_536;
 const MOST_KEPT: usize = 8_388_608;
 
 /// The rows that the numbers at a place in a row's elements name, by the place and the row, and how often the elements of
-/// several rows were walked.
+/// several rows were walked; the rows that were asked for last, and those that were walked last.
 #[derive(Drop)]
 pub struct NamesByRow {
     names: BTreeMap<(u32, u16), NamedRows>,
     walks: usize,
+    last: Vec<u16>,
+    walked: WalkedRows,
 }
 
 impl NamesByRow {
     /// No names.
     pub fn new(alloc: Global) -> NamesByRow
-        ensures { (g : Ground) → AreNamed g result.names }
+        ensures { (g : Ground) → KnowsRows g result }
     {
         NamesByRow {
             names: BTreeMap::new(alloc),
             walks: 0,
+            last: Vec::new(alloc),
+            walked: WalkedRows::new(alloc),
         }
     }
 
     /// The rows that are named in so many elements of these rows. Those of several rows are walked place by place, so that
     /// one that rows share is read at most twice. Once there were as many walks as there are rows, the names of each row are
-    /// kept and joined, unless they are too many.
+    /// kept and joined, unless they are too many. Short rows that come again are read at the places that were walked.
     pub fn names_in(
         &mut self,
         alloc: Global,
@@ -54,20 +59,35 @@ impl NamesByRow {
         rows: &[u16],
         place: u32,
         elements: u64,
-    ) -> Result<NamedRows, NoMemory>
+    ) -> Result<OrderedRows, NoMemory>
         requires place { place < 2 ^ 16 }
         requires placed { ArePlaced (ground_of space.now) rows.now }
-        requires named { AreNamed (ground_of space.now) self.old.names }
-        ensures names { IfOk result (IsNamingIn (ground_of space.now) place rows.now) }
-        ensures named { OnOk result (AreNamed (ground_of space.now) self.new.names) }
+        requires named { KnowsRows (ground_of space.now) self.old }
+        ensures names { IfOk result (IsOrderedIn (ground_of space.now) place rows.now) }
+        ensures named { OnOk result (KnowsRows (ground_of space.now) self.new) }
     {
         if rows.len() == 1 || elements <= FEW_ELEMENTS {
-            return names_read(alloc, space, rows, place);
+            return names_read(alloc, space, rows, place)?.ordered(alloc);
+        }
+        if self.comes_again(rows)? && are_short(rows, elements) {
+            return self.names_walked(alloc, space, rows, place, elements);
         }
         match self.names_joined(alloc, space, rows, place)? {
-            Some(names) => Ok(names),
+            Some(names) => names.ordered(alloc),
             None => self.names_walked(alloc, space, rows, place, elements),
         }
+    }
+
+    // Whether the rows were asked for last. They are asked for last then.
+    fn comes_again(&mut self, rows: &[u16]) -> Result<bool, NoMemory>
+        ensures { (g : Ground) → KnowsRows g self.old → OnOk result (KnowsRows g self.new) }
+    {
+        let again = self.last.as_slice() == rows;
+        if !again {
+            self.last.clear();
+            self.last.extend_from_slice(rows)?;
+        }
+        Ok(again)
     }
 
     // The names of each row joined; none where there were few walks, there is no room, or the names are too many.
@@ -79,9 +99,9 @@ impl NamesByRow {
         place: u32,
     ) -> Result<Option<NamedRows>, NoMemory>
         requires place { place < 2 ^ 16 }
-        requires named { AreNamed (ground_of space.now) self.old.names }
+        requires named { KnowsRows (ground_of space.now) self.old }
         ensures names { IfOk result (λ names. IfSome names (IsNamingIn (ground_of space.now) place rows.now)) }
-        ensures named { OnOk result (AreNamed (ground_of space.now) self.new.names) }
+        ensures named { OnOk result (KnowsRows (ground_of space.now) self.new) }
     {
         if rows.len() > self.walks || !self.has_room(space, rows, place) {
             return Ok(None);
@@ -124,9 +144,9 @@ impl NamesByRow {
         requires place { place < 2 ^ 16 }
         requires table { names.old.table_rows ≡ row_count (ground_of space.now).memory }
         requires counted { IsCounted names.old }
-        requires named { AreNamed (ground_of space.now) self.old.names }
+        requires named { KnowsRows (ground_of space.now) self.old }
         ensures joined { OnOk result (Takes (ground_of space.now) (numbers_in (ground_of space.now) place (elements_of (ground_of space.now) row)) names.old names.new) }
-        ensures named { OnOk result (AreNamed (ground_of space.now) self.new.names) }
+        ensures named { OnOk result (KnowsRows (ground_of space.now) self.new) }
     {
         let count = space.count(row);
         if count <= FEW_OF_ROW {
@@ -151,19 +171,21 @@ impl NamesByRow {
         rows: &[u16],
         place: u32,
         elements: u64,
-    ) -> Result<NamedRows, NoMemory>
+    ) -> Result<OrderedRows, NoMemory>
         requires place { place < 2 ^ 16 }
         requires placed { ArePlaced (ground_of space.now) rows.now }
-        requires named { AreNamed (ground_of space.now) self.old.names }
-        ensures names { IfOk result (IsNamingIn (ground_of space.now) place rows.now) }
-        ensures named { OnOk result (AreNamed (ground_of space.now) self.new.names) }
+        requires named { KnowsRows (ground_of space.now) self.old }
+        ensures names { IfOk result (IsOrderedIn (ground_of space.now) place rows.now) }
+        ensures named { OnOk result (KnowsRows (ground_of space.now) self.new) }
     {
         self.walks = self.walks.saturating_add(1);
-        let mut names = NamedRows::new(alloc, space.rows())?;
-        let places = places_of(alloc, space, rows, elements)?;
-        names.take_at(space, places.as_slice(), place)?;
-        Ok(names)
+        self.walked.names_in(alloc, space, rows, place, elements)
     }
+}
+
+// Whether the rows have few elements each, or less by their places.
+fn are_short(rows: &[u16], elements: u64) -> bool {
+    elements.min(MOST_PLACES) <= rows.len().saturating_mul(usize::from(FEW_OF_ROW)) as u64
 }
 
 // The names in the elements of a row.

@@ -23,6 +23,10 @@ impl Dataspace {
         requires { at < 2 ^ 32 - 1 }
         ensures { result ≡ u16_at self.now.bytes.items at }
     {
+        let low = at as usize;
+        if low + 1 < self.bytes.len() {
+            return u16::from_le_bytes([self.bytes[low], self.bytes[low + 1]]);
+        }
         u16::from_le_bytes([self.byte_at(at), self.byte_at(at + 1)])
     }
 

@@ -1,15 +1,15 @@
 // What is found in the elements of rows, once for the same rows.
 
-ghost use Rattle.std.specs.Prelude.{◌≡◌, ◌<◌, ◌≤◌, ◌^◌, [], ◌∷◌, flat_map, length, IfOk, OnOk};
+ghost use Rattle.std.specs.Prelude.{◌≡◌, ◌<◌, ◌≤◌, ◌^◌, [], ◌∷◌, flat_map, length, IfOk, IfSome, OnOk};
 ghost use Rattle.std.specs.Rc.{rc_slice_items};
 ghost use Rattle.nxt_layout.specs.Rows.{Ground, elements_of};
-ghost use Rattle.nxt_layout.specs.Inside.RowPasses.{ground_of, IsCounted};
-ghost use Rattle.nxt_layout.specs.Inside.Known.{AreNamed, ArePlaced, IsFoundIn, IsKnown, IsSame, IsToldBy};
+ghost use Rattle.nxt_layout.specs.Inside.RowPasses.{ground_of};
+ghost use Rattle.nxt_layout.specs.Inside.Known.{ArePlaced, AreRead, IsFoundIn, IsKnown, IsSame, IsToldBy};
 
 use crate::by_row::NamesByRow;
 use crate::dataspace::Dataspace;
-use crate::named_rows::NamedRows;
-use crate::strides::read_rows;
+use crate::named_rows::{NamedRows, OrderedRows};
+use crate::reading::{Reading, reading_of};
 use nxt_types::NoMemory;
 use std::alloc::Global;
 use std::collections::BTreeMap;
@@ -26,11 +26,12 @@ pub struct Found {
 }
 
 /// What is found, by the place, the bytes of an element, and the rows whose elements have the numbers; and what single rows
-/// name.
+/// name, and which rows were read last.
 #[derive(Drop)]
 pub struct Known {
     found: BTreeMap<(u32, u32, RcSlice<u16>), Found>,
     names: NamesByRow,
+    last: Option<Reading>,
 }
 
 impl Known {
@@ -41,6 +42,7 @@ impl Known {
         Known {
             found: BTreeMap::new(alloc),
             names: NamesByRow::new(alloc),
+            last: None,
         }
     }
 }
@@ -57,7 +59,8 @@ pub fn found_outside(
 {
     let mut names = NamedRows::new(alloc, space.rows())?;
     names.take(space.number_at(place))?;
-    found_of(alloc, space, names, 1, bytes)
+    let mut none: Option<Reading> = None;
+    found_of(alloc, space, &mut none, names.ordered(alloc)?, 1, bytes)
 }
 
 /// What the numbers in the elements of these rows tell. It is found once.
@@ -80,14 +83,7 @@ pub fn found_in(
     if let Some(found) = known.found.get(&key) {
         return found.share();
     }
-    let found = found_anew(
-        alloc,
-        space,
-        &mut known.names,
-        rows.as_slice(),
-        place,
-        bytes,
-    )?;
+    let found = found_anew(alloc, space, known, rows.as_slice(), place, bytes)?;
     let shared = found.share()?;
     let _none = known.found.insert(key, found)?;
     Ok(shared)
@@ -96,7 +92,7 @@ pub fn found_in(
 fn found_anew(
     alloc: Global,
     space: &Dataspace,
-    names: &mut NamesByRow,
+    known: &mut Known,
     rows: &[u16],
     place: u32,
     bytes: u32,
@@ -104,34 +100,34 @@ fn found_anew(
     requires place { place < 2 ^ 16 }
     requires few { length rows.now ≤ 2 ^ 17 }
     requires placed { ArePlaced (ground_of space.now) rows.now }
-    requires named { AreNamed (ground_of space.now) names.old.names }
+    requires known { IsKnown (ground_of space.now) known.old }
     ensures found { IfOk result (IsFoundIn (ground_of space.now) place bytes (flat_map (elements_of (ground_of space.now)) rows.now)) }
-    ensures named { OnOk result (AreNamed (ground_of space.now) names.new.names) }
+    ensures known { OnOk result (IsKnown (ground_of space.now) known.new) }
 {
     let lists = elements(space, rows);
-    let names = names.names_in(alloc, space, rows, place, lists)?;
-    found_of(alloc, space, names, lists, bytes)
+    let names = known.names.names_in(alloc, space, rows, place, lists)?;
+    found_of(alloc, space, &mut known.last, names, lists, bytes)
 }
 
 // What these names tell.
 fn found_of(
     alloc: Global,
     space: &Dataspace,
-    names: NamedRows,
+    last: &mut Option<Reading>,
+    names: OrderedRows,
     lists: u64,
     bytes: u32,
 ) -> Result<Found, NoMemory>
-    requires { IsCounted names }
-    ensures { IfOk result (IsToldBy (ground_of space.now) bytes names lists) }
+    requires last { IfSome last.old (AreRead (ground_of space.now)) }
+    ensures told { IfOk result (IsToldBy (ground_of space.now) bytes names lists) }
+    ensures last { OnOk result (IfSome last.new (AreRead (ground_of space.now))) }
 {
-    let beyond = names.beyond;
-    let rows = names.ordered(alloc)?;
-    let read = read_rows(alloc, space, bytes, rows.as_slice())?;
+    let reading = reading_of(alloc, space, last, bytes, names.rows)?;
     Ok(Found {
-        rows: RcSlice::from_vec(rows)?,
-        read: RcSlice::from_vec(read)?,
+        rows: reading.rows,
+        read: reading.read,
         lists,
-        beyond,
+        beyond: names.beyond,
     })
 }
 

@@ -6,13 +6,16 @@ mod by_row;
 mod dataspace;
 pub mod fault;
 mod known;
+mod lanes;
 pub mod layout;
 mod named_rows;
 mod places;
 mod reach;
+mod reading;
 mod rows;
 mod spans;
 mod strides;
+mod walked;
 
 pub use fault::LayoutFault;
 pub use layout::{Layout, check_layout};

@@ -3,8 +3,8 @@
 ghost use Rattle.std.specs.Prelude.{◌≡◌, ℕ, List, ◌<◌, ◌≤◌, ◌*◌, ◌^◌, ◌&&◌, ◌||◌, false, [], ◌∷◌, map, length, slice_index, nat_lt, All, IfOk, OnOk};
 ghost use Rattle.nxt_model.specs.Reading.{row_count};
 ghost use Rattle.nxt_layout.specs.Rows.{Ground, elements_of};
-ghost use Rattle.nxt_layout.specs.Inside.RowPasses.{ground_of, keep_twice, numbers_in, listed, any_below, ordered as ordered_rows, IsCounted, Takes};
-ghost use Rattle.nxt_layout.specs.Inside.Known.{IsNaming};
+ghost use Rattle.nxt_layout.specs.Inside.RowPasses.{ground_of, keep_twice, numbers_in, listed, any_below, IsCounted, Takes};
+ghost use Rattle.nxt_layout.specs.Inside.Known.{AreOrdered, IsNaming};
 
 use crate::dataspace::Dataspace;
 use nxt_types::NoMemory;
@@ -20,6 +20,14 @@ pub struct NamedRows {
     table_rows: u16,
     pub rows: Vec<u16>,
     times: Vec<u8>,
+    pub beyond: bool,
+}
+
+/// The rows that numbers name, each at most twice: in the order of naming, or of number where one is named twice; and
+/// whether a number is past the table's rows.
+#[derive(Drop)]
+pub struct OrderedRows {
+    pub rows: Vec<u16>,
     pub beyond: bool,
 }
 
@@ -153,16 +161,20 @@ impl NamedRows {
         Ok(())
     }
 
-    /// The rows: in the order of naming, or of number where one is named twice.
-    pub fn ordered(self, alloc: Global) -> Result<Vec<u16>, NoMemory>
+    /// The rows in order.
+    pub fn ordered(self, alloc: Global) -> Result<OrderedRows, NoMemory>
         requires { IsCounted self }
-        ensures { IfOk result (λ rows. rows.items ≡ ordered_rows self.table_rows self.rows.items) }
+        ensures { (g : Ground) (numbers : List ℕ) → IsNaming g numbers self → IfOk result (AreOrdered g numbers) }
     {
+        let beyond = self.beyond;
         if self.has_twice() {
-            self.in_order(alloc)
-        } else {
-            Ok(self.rows)
+            let rows = self.in_order(alloc)?;
+            return Ok(OrderedRows { rows, beyond });
         }
+        Ok(OrderedRows {
+            rows: self.rows,
+            beyond,
+        })
     }
 
     fn has_twice(&self) -> bool

@@ -9,17 +9,17 @@ use crate::dataspace::Dataspace;
 use nxt_types::NoMemory;
 use std::alloc::Global;
 
-/// The places of a dataspace, twice.
-const MOST_KEPT: u64 = 131_072;
+/// The most places that are kept of rows: those of a dataspace, twice.
+pub const MOST_PLACES: u64 = 131_072;
 
 /// The places of elements in the order of their rows, each at most twice: one that comes a third time tells nothing more.
 /// Each place of the dataspace has its count among them, and how many elements from it on, of rows of this stride, are
 /// among them twice.
 #[derive(Drop)]
-struct Places {
+pub struct Places {
     stride: u16,
-    kept: Vec<u32>,
-    times: Vec<u8>,
+    pub kept: Vec<u32>,
+    pub times: Vec<u8>,
     steps: Vec<u16>,
 }
 
@@ -29,16 +29,16 @@ pub fn places_of(
     space: &Dataspace,
     rows: &[u16],
     elements: u64,
-) -> Result<Vec<u32>, NoMemory>
+) -> Result<Places, NoMemory>
     requires { ArePlaced (ground_of space.now) rows.now }
-    ensures places { IfOk result (λ places. places.items ≡ fold keep_twice [] (flat_map (elements_of (ground_of space.now)) rows.now)) }
-    ensures small { IfOk result (λ places. All (λ p. p ≤ 65535 * 65535) places.items) }
+    ensures places { IfOk result (λ places. places.kept.items ≡ fold keep_twice [] (flat_map (elements_of (ground_of space.now)) rows.now)) }
+    ensures walked { IfOk result IsWalked }
 {
     let mut places = Places::new(alloc, space, stride_among(space, rows), elements)?;
     for row in rows {
         places.take_row(space, *row)?;
     }
-    Ok(places.kept)
+    Ok(places)
 }
 
 // The stride of the rows that have elements. Those that are read through one array have the same.
@@ -52,6 +52,19 @@ fn stride_among(space: &Dataspace, rows: &[u16]) -> u16 {
 }
 
 impl Places {
+    /// No places.
+    pub fn none(alloc: Global) -> Places
+        ensures kept { result.kept.items ≡ [] }
+        ensures walked { IsWalked result }
+    {
+        Places {
+            stride: 0,
+            kept: Vec::new(alloc),
+            times: Vec::new(alloc),
+            steps: Vec::new(alloc),
+        }
+    }
+
     // With room for so many elements.
     fn new(alloc: Global, space: &Dataspace, stride: u16, elements: u64) -> Result<Places, NoMemory>
         ensures count { IfOk result (λ p. length p.times.items ≡ length space.now.bytes.items + 1) }
@@ -61,7 +74,7 @@ impl Places {
         let count = space.bytes.len() + 1;
         Ok(Places {
             stride,
-            kept: Vec::with_capacity(alloc, elements.min(MOST_KEPT) as usize)?,
+            kept: Vec::with_capacity(alloc, elements.min(MOST_PLACES) as usize)?,
             times: vec![in alloc; 0u8; count]?,
             steps: vec![in alloc; 0u16; count]?,
         })

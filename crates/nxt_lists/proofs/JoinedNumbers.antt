@@ -5,7 +5,6 @@ use Rattle.std.proofs.lemmas.List.{map-append, take_more}
 use Rattle.std.proofs.lemmas.List.Elements.{All-nil, All-cons, All-append}
 use Rattle.std.specs.Prelude.{All}
 use Rattle.nxt_types.specs.Arithmetic.{leaf_size}
-use Rattle.nxt_types.specs.Pool.{pool_size}
 use Rattle.nxt_types.specs.Shapes.{Number}
 use Rattle.nxt_types.specs.declared.kind.Kind.{Kind}
 use Rattle.nxt_model.specs.Means.Arrays.{pieces}
@@ -88,7 +87,7 @@ list_then s dest to sources mine some same =
     let others = take (length sources - 1) (drop 1 sources) in
     ap (pieces_of s dest) (first_source sources some ∙ ap (λ i. i ∷ others) same) ∙ list_first s dest to others mine
 
-pub rest_few : (k : Kind) (vs us ws : List Value) → vs ≡ us ++ ws → length vs * leaf_size k ≤ pool_size → length ws * leaf_size k < 2 ^ 31
+pub rest_few : (k : Kind) (vs us ws : List Value) → vs ≡ us ++ ws → length vs * leaf_size k < 2 ^ 31 → length ws * leaf_size k < 2 ^ 31
 rest_few k vs us ws is few =
     let less : length ws ≤ length vs = omega (arith, ap length is, length-append us ws) in
     omega (arith, numbers_ordered k (length ws) (length vs) less, few)

@@ -1,6 +1,6 @@
 // Lists of numbers that stand one behind another, built of numbers and of such lists.
 
-ghost use Rattle.std.specs.Prelude.{◌≡◌, false, ◌++◌, ◌*◌, ◌≤◌, ◌<◌, ◌^◌, ℕ, List, None, length, All, IfOk, IfSome, OnOk, ◌∷◌, []};
+ghost use Rattle.std.specs.Prelude.{◌≡◌, false, ◌++◌, ◌*◌, ◌≤◌, ◌<◌, ◌^◌, ℕ, List, None, length, All, Err, IfErr, IfOk, IfSome, OnOk, ◌∷◌, []};
 ghost use Rattle.nxt_types.specs.Arithmetic.{leaf_size as size_of_leaf};
 ghost use Rattle.nxt_types.specs.Shapes.{is_number};
 ghost use Rattle.nxt_types.specs.declared.kind.Kind.{Kind};
@@ -20,6 +20,7 @@ use nxt_operands::storing::check_room;
 use nxt_space::{ListSpot, OpFault, Space, Spot};
 use nxt_types::kind::Kind;
 use nxt_types::numbers::leaf_size;
+use nxt_types::pool::POOL_BYTES;
 use nxt_types::{Bytes, NoMemory};
 use nxt_values::sizing::NONE;
 use std::alloc::Global;
@@ -115,6 +116,21 @@ pub fn count_numbers(space: &Space, dest: u16, to: ListSpot, sources: &[u16]) ->
     Some(count)
 }
 
+// Asks the pool whether a variable may hold a list of so many numbers, where they are more than the pool has bytes. Of fewer
+// it is told when they are stored.
+fn check_many(space: &Space, dest: u16, to: ListSpot, count: u64) -> Result<(), OpFault>
+    requires sound { AreSound space.now.vars }
+    requires dest { IsListSpot space.now.vars dest to }
+    requires few { count ≤ 2 ^ 32 }
+    ensures few { OnOk result (count * size_of_leaf to.kind < 2 ^ 31) }
+    ensures refused { (vs : List Value) → count ≡ length vs → IfErr result (λ fault. Does Done (with_value space.now.vars dest (stored (shape_of space.now.vars dest) (list_of vs))) space.now (Err fault) space.now) }
+{
+    if count > POOL_BYTES {
+        check_room(space, dest, count, NONE)?;
+    }
+    Ok(())
+}
+
 /// Stores the list of the numbers that all sources give, where the pool has room for so many.
 pub fn store_joined(
     alloc: Global,
@@ -132,7 +148,7 @@ pub fn store_joined(
     ensures does { Does Done (with_value space.old.vars dest (stored (shape_of space.old.vars dest) (list_of (pieces_of space.old.vars dest sources.now)))) space.old result space.new }
     ensures leaves { Leaves (dest ∷ []) space.old space.new }
 {
-    check_room(space, dest, count, NONE)?;
+    check_many(space, dest, to, count)?;
     match sources {
         [first, others @ ..] if *first == dest => extend_numbers(alloc, space, dest, to, others),
         _ => {

@@ -10,21 +10,24 @@ use itoa::{Buffer, write_digits};
 use nxt_types::{Bytes, NoMemory};
 use std::alloc::Global;
 
-// How many fields are written at once.
-const PIECE: usize = 8;
+// The most fields of a line that is put together at once.
+const FIELDS: usize = 8;
 
-// The bytes that a field of a number takes at most: a comma, a sign and 20 digits.
-const FIELD: usize = 22;
+// The bytes that a number takes at most: a sign and 20 digits.
+const NUMBER: usize = 21;
 
-// Room for as many fields.
-const ROOM: usize = PIECE * FIELD;
+// The bytes of the longest name of a line that is put together at once.
+const NAME: usize = 16;
+
+// Room for such a name, for as many fields, each with its comma, and for the byte behind them.
+const ROOM: usize = NAME + FIELDS * (1 + NUMBER) + 1;
 
 // Writes a number so that it ends at a place, and gives the place where it starts.
 #[inline(always)]
 fn write_number(number: i64, buffer: &mut [u8], end: usize) -> usize
-    requires room { 21 ≤ end }
+    requires room { NUMBER ≤ end }
     requires within { end ≤ length buffer.old }
-    ensures start { end ≤ result + 21 }
+    ensures start { end ≤ result + NUMBER }
     ensures within { result ≤ end }
     ensures written { drop result buffer.new ≡ number_text number ++ drop end buffer.old }
 {
@@ -39,9 +42,9 @@ fn write_number(number: i64, buffer: &mut [u8], end: usize) -> usize
 // Writes a comma and a number so that they end at a place, and gives the place where they start.
 #[inline(always)]
 fn write_field(number: i64, buffer: &mut [u8], end: usize) -> usize
-    requires room { FIELD ≤ end }
+    requires room { 1 + NUMBER ≤ end }
     requires within { end ≤ length buffer.old }
-    ensures start { end ≤ result + FIELD }
+    ensures start { end ≤ result + 1 + NUMBER }
     ensures within { result ≤ end }
     ensures written { drop result buffer.new ≡ 44 ∷ number_text number ++ drop end buffer.old }
 {
@@ -50,35 +53,60 @@ fn write_field(number: i64, buffer: &mut [u8], end: usize) -> usize
     start - 1
 }
 
-// Adds a comma and a number for each of a few numbers. They are written from the last to the first.
-fn push_fields(numbers: &[i64], into: &mut Bytes) -> Result<(), NoMemory>
-    requires { length numbers.now ≤ PIECE }
-    ensures ok { OnOk result (into.new ≡ into.old ++ fields_then (map number_text numbers.now) []) }
+// Adds a short name, a comma and a number for each of a few numbers, and the byte that stands behind these. They are put
+// together from the last to the first.
+fn push_short(name: &[u8], numbers: &[i64], last: u8, into: &mut Bytes) -> Result<(), NoMemory>
+    requires name { length name.now ≤ NAME }
+    requires numbers { length numbers.now ≤ FIELDS }
+    ensures ok { OnOk result (into.new ≡ into.old ++ (name.now ++ fields_then (map number_text numbers.now) (last ∷ []))) }
     ensures err { OnErr result (into.new ≡ into.old) }
 {
     let mut buffer = [0u8; ROOM];
-    let mut start = ROOM;
+    let mut start = ROOM - 1;
+    buffer[start] = last;
     let mut left = numbers.len();
     while left > 0 {
         left -= 1;
         start = write_field(numbers[left], &mut buffer, start);
     }
+    let front = start - name.len();
+    buffer[front..start].copy_from_slice(name);
+    into.append(&buffer[front..])
+}
+
+// Adds a number.
+fn push_number(number: i64, into: &mut Bytes) -> Result<(), NoMemory>
+    ensures ok { OnOk result (into.new ≡ into.old ++ number_text number) }
+    ensures err { OnErr result (into.new ≡ into.old) }
+{
+    let mut buffer = [0u8; NUMBER];
+    let start = write_number(number, &mut buffer, NUMBER);
     into.append(&buffer[start..])
 }
 
-// Adds a name, numbers behind it, and what stands behind these.
-fn numbers_then(name: &[u8], numbers: &[i64], last: &[u8], into: &mut Bytes) -> Result<(), NoMemory>
-    ensures ok { OnOk result (into.new ≡ into.old ++ (name.now ++ fields_then (map number_text numbers.now) last.now)) }
+// The same as `push_short`, whatever the lengths: one number is added after another.
+fn push_long(name: &[u8], numbers: &[i64], last: u8, into: &mut Bytes) -> Result<(), NoMemory>
+    ensures ok { OnOk result (into.new ≡ into.old ++ (name.now ++ fields_then (map number_text numbers.now) (last ∷ []))) }
     ensures err { OnErr result (take (length into.old) into.new ≡ into.old) }
 {
     into.append(name)?;
-    let mut start = 0;
-    while start < numbers.len() {
-        let end = numbers.len().min(start + PIECE);
-        push_fields(&numbers[start..end], into)?;
-        start = end;
+    for number in numbers {
+        into.push(b',')?;
+        push_number(*number, into)?;
     }
-    into.append(last)
+    into.push(last)
+}
+
+// Adds a name, numbers behind it, and the byte that stands behind these.
+fn numbers_then(name: &[u8], numbers: &[i64], last: u8, into: &mut Bytes) -> Result<(), NoMemory>
+    ensures ok { OnOk result (into.new ≡ into.old ++ (name.now ++ fields_then (map number_text numbers.now) (last ∷ []))) }
+    ensures err { OnErr result (take (length into.old) into.new ≡ into.old) }
+{
+    if name.len() <= NAME && numbers.len() <= FIELDS {
+        push_short(name, numbers, last, into)
+    } else {
+        push_long(name, numbers, last, into)
+    }
 }
 
 // Adds a line of numbers behind a name.
@@ -86,7 +114,7 @@ fn push_number_line(name: &[u8], numbers: &[i64], into: &mut Bytes) -> Result<()
     ensures ok { OnOk result (into.new ≡ into.old ++ line_of name.now (map number_text numbers.now)) }
     ensures err { OnErr result (take (length into.old) into.new ≡ into.old) }
 {
-    numbers_then(name, numbers, b"\n", into)
+    numbers_then(name, numbers, b'\n', into)
 }
 
 /// A line of numbers behind a name.
@@ -111,7 +139,7 @@ fn push_bytes_line(
 {
     let alloc = *into.as_vec().allocator();
     let digits = hex::encode(alloc, bytes)?;
-    numbers_then(name, numbers, b",", into)?;
+    numbers_then(name, numbers, b',', into)?;
     into.append(digits.as_bytes())?;
     into.push(b'\n')
 }
@@ -128,7 +156,7 @@ fn push_count_line(
     ensures err { OnErr result (take (length into.old) into.new ≡ into.old) }
 {
     let mut buffer = Buffer::new();
-    numbers_then(name, numbers, b",", into)?;
+    numbers_then(name, numbers, b',', into)?;
     into.append(buffer.format(count).as_bytes())?;
     into.push(b'\n')
 }

@@ -45,9 +45,11 @@ pub fn concatenate(
             return add_bodies(alloc, space, list, others);
         }
     }
-    // The pool is asked before the bodies are put together, since they may be far longer than it.
+    // Before bodies are put together that may be far longer than the pool it is asked.
     let length = bodies_length(alloc, space, sources)?;
-    check_room(space, dest, length + 1, NONE)?;
+    if length > POOL_BYTES {
+        check_room(space, dest, length + 1, NONE)?;
+    }
     let bytes = bodies(alloc, space, sources, length as usize)?;
     store_text(alloc, space, dest, bytes.as_slice())
 }

@@ -16,6 +16,8 @@ pub mod Rows
 pub mod Without
 -- The elements of lists: where they stand, what they hold, their values and their rows.
 pub mod Elements
+-- The members of a cluster that are ahead, one by one.
+pub mod Members
 -- What the heap holds are values of the variables' shapes.
 pub mod Shapes
 -- How many members groups have.

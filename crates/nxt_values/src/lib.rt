@@ -3,6 +3,7 @@
 #![tactic(auto)]
 
 pub mod elements;
+pub mod members;
 pub mod parts;
 pub mod reading;
 pub mod shapes;

@@ -13,8 +13,10 @@ ghost use Rattle.nxt_model.specs.Reading.{desc_of};
 ghost use Rattle.nxt_heap.specs.Lists.{footprint};
 ghost use Rattle.nxt_values.specs.Regions.{bytes_in, IsRegion, value_there, values_there, HoldsThere, HoldAllThere};
 ghost use Rattle.nxt_values.specs.Held.{leaf_place as place_of};
+ghost use Rattle.nxt_values.specs.Ahead.{ahead};
 
 use crate::elements::elements_at;
+use crate::members::Members;
 use nxt_heap::Heap;
 use nxt_types::NoMemory;
 use nxt_types::kind::Kind;
@@ -36,23 +38,6 @@ pub struct Place {
     pub region: Region,
     pub entry: u16,
     pub base: u32,
-}
-
-impl Place {
-    /// Where the first member stands of the group that stands there.
-    pub fn inside(self) -> Place
-        requires { self.entry + 1 < 2 ^ 16 }
-        ensures { result ≡ record self { entry = self.entry + 1 } }
-    {
-        self.member(self.entry + 1)
-    }
-
-    /// Where the member of a group stands that begins at an entry.
-    pub fn member(self, entry: u16) -> Place
-        ensures { result ≡ record self { entry = entry } }
-    {
-        Place { entry, ..self }
-    }
 }
 
 /// The bytes of a region.
@@ -189,32 +174,26 @@ pub fn gather(
             }
             Ok(())
         }
-        Shape::Group(members) => {
-            gather_members(heap, entries, members.items.as_slice(), at.inside(), into)
-        }
+        Shape::Group(group) => gather_members(heap, entries, Members::of(group, at), into),
     }
 }
 
-// Adds the flat forms of the values whose first begins there.
+// Adds the flat forms of the members that are ahead.
 #[cycle(gather)]
 fn gather_members(
     heap: &Heap,
     entries: &[TocEntry],
-    shapes: &[Shape],
-    at: Place,
+    mut members: Members<'_>,
     into: &mut Nums,
 ) -> Result<(), NoMemory>
     requires pool { footprint heap.now.lists ≤ pool_size }
-    requires region { IsRegion heap.now.lists at.region }
-    requires entries { at.entry + sizes (members (map tree shapes.now)) < 2 ^ 16 }
-    requires holds { HoldAllThere entries.now heap.now.lists (members (map tree shapes.now)) at }
-    ensures ok { OnOk result (into.new ≡ into.old ++ flats (values (values_there entries.now heap.now.lists (members (map tree shapes.now)) at))) }
+    requires region { IsRegion heap.now.lists members.first.region }
+    requires holds { HoldAllThere entries.now heap.now.lists (ahead members) members.first }
+    ensures ok { OnOk result (into.new ≡ into.old ++ flats (values (values_there entries.now heap.now.lists (ahead members.entry) members.entry.first))) }
     ensures err { OnErr result (take (length into.old) into.new ≡ into.old) }
 {
-    let mut entry = at.entry;
-    for shape in shapes {
-        gather(heap, entries, shape, at.member(entry), into)?;
-        entry += size_of(shape);
+    while let Some((shape, place)) = members.next() {
+        gather(heap, entries, shape, place, into)?;
     }
     Ok(())
 }

@@ -2,15 +2,17 @@
 
 ghost use Rattle.std.specs.Prelude.{◌≡◌, ◌<◌, ◌≤◌, ◌+◌, ◌*◌, ◌^◌, length, drop, map, nat_abs};
 ghost use Rattle.nxt_types.specs.Shapes.{tree, members};
-ghost use Rattle.nxt_types.specs.Names.{size, sizes};
+ghost use Rattle.nxt_types.specs.Names.{size};
 ghost use Rattle.nxt_types.specs.Pool.{pool_size, round4 as rounded};
 ghost use Rattle.nxt_heap.specs.Lists.{footprint};
 ghost use Rattle.nxt_values.specs.Regions.{IsRegion, HoldsThere, HoldAllThere};
+ghost use Rattle.nxt_values.specs.Ahead.{ahead};
 ghost use Rattle.nxt_values.specs.Fills.{filled, all_filled};
 ghost use Rattle.nxt_values.specs.Sizes.{IsCountable, size_of_filled, size_of_all_filled, size_there, sizes_there};
 
 use crate::elements::elements_at;
-use crate::reading::{Place, size_of};
+use crate::members::Members;
+use crate::reading::Place;
 use crate::shapes::is_number;
 use crate::writing::{behind, behind_many, first_count};
 use nxt_heap::Heap;
@@ -77,27 +79,22 @@ pub fn held_size(heap: &Heap, entries: &[TocEntry], shape: &Shape, at: Place) ->
             }
             inner.in_list(u64::from(elements.count), elements.stride)
         }
-        Shape::Group(members) => {
-            held_sizes(heap, entries, members.items.as_slice(), at.inside())
-        }
+        Shape::Group(group) => held_sizes(heap, entries, Members::of(group, at)),
     }
 }
 
-// The size of the values whose first begins there.
+// The size of the members that are ahead.
 #[cycle(held)]
-fn held_sizes(heap: &Heap, entries: &[TocEntry], shapes: &[Shape], at: Place) -> Size
+fn held_sizes(heap: &Heap, entries: &[TocEntry], mut members: Members<'_>) -> Size
     requires pool { footprint heap.now.lists ≤ pool_size }
-    requires region { IsRegion heap.now.lists at.region }
-    requires entries { at.entry + sizes (members (map tree shapes.now)) < 2 ^ 16 }
-    requires holds { HoldAllThere entries.now heap.now.lists (members (map tree shapes.now)) at }
-    requires countable { IsCountable (sizes_there entries.now heap.now.lists (members (map tree shapes.now)) at) }
-    ensures { result ≡ sizes_there entries.now heap.now.lists (members (map tree shapes.now)) at }
+    requires region { IsRegion heap.now.lists members.first.region }
+    requires holds { HoldAllThere entries.now heap.now.lists (ahead members) members.first }
+    requires countable { IsCountable (sizes_there entries.now heap.now.lists (ahead members) members.first) }
+    ensures { result ≡ sizes_there entries.now heap.now.lists (ahead members.entry) members.entry.first }
 {
     let mut sum = NONE;
-    let mut entry = at.entry;
-    for shape in shapes {
-        sum = sum.plus(held_size(heap, entries, shape, at.member(entry)));
-        entry += size_of(shape);
+    while let Some((shape, place)) = members.next() {
+        sum = sum.plus(held_size(heap, entries, shape, place));
     }
     sum
 }

@@ -10,12 +10,14 @@ ghost use Rattle.nxt_heap.specs.Lists.{footprint, bytes_at};
 ghost use Rattle.nxt_heap.specs.Moves.{RowsStay, NoneMoves};
 ghost use Rattle.nxt_values.specs.Held.{leaf_place as place_of};
 ghost use Rattle.nxt_values.specs.Regions.{bytes_in, IsRegion, HoldsThere, HoldAllThere};
+ghost use Rattle.nxt_values.specs.Ahead.{ahead};
 ghost use Rattle.nxt_values.specs.Writes.{with_bytes, put, bytes_of_number, without, emptied, rows_there, all_rows_there, AreOwn, KeepsRows};
 ghost use Rattle.nxt_values.specs.Fills.{first_of, needs, needs_for, needs_for_all, needs_for_each, FillsThere, FillAllThere, RoomThere, RoomForAll};
 ghost use Rattle.nxt_values.specs.Elements.{AreOpened, HaveRoom, FillsElements, HasRow, row_there, closed, GetsNoLonger};
 
 use crate::elements::{Elements, elements_at, list_row};
-use crate::reading::{Place, Region, leaf_place, size_of};
+use crate::members::Members;
+use crate::reading::{Place, Region, leaf_place};
 use crate::shapes::has_inner_list;
 use nxt_heap::{Heap, PoolPassed};
 use nxt_types::kind::Kind;
@@ -95,26 +97,21 @@ pub fn free_lists(heap: &mut Heap, entries: &[TocEntry], shape: &Shape, at: Plac
             }
             heap.free_array(elements.row);
         }
-        Shape::Group(members) => {
-            free_members(heap, entries, members.items.as_slice(), at.inside());
-        }
+        Shape::Group(group) => free_members(heap, entries, Members::of(group, at)),
     }
 }
 
-// Frees the lists of the values whose first begins there.
+// Frees the lists of the members that are ahead.
 #[cycle(free)]
-fn free_members(heap: &mut Heap, entries: &[TocEntry], shapes: &[Shape], at: Place)
+fn free_members(heap: &mut Heap, entries: &[TocEntry], mut members: Members<'_>)
     requires pool { footprint heap.old.lists ≤ pool_size }
-    requires region { IsRegion heap.old.lists at.region }
-    requires entries { at.entry + sizes (members (map tree shapes.now)) < 2 ^ 16 }
-    requires holds { HoldAllThere entries.now heap.old.lists (members (map tree shapes.now)) at }
-    requires own { AreOwn at.region (all_rows_there entries.now heap.old.lists (members (map tree shapes.now)) at) }
-    ensures { heap.new.lists ≡ without heap.old.lists (all_rows_there entries.now heap.old.lists (members (map tree shapes.now)) at) }
+    requires region { IsRegion heap.old.lists members.first.region }
+    requires holds { HoldAllThere entries.now heap.old.lists (ahead members) members.first }
+    requires own { AreOwn members.first.region (all_rows_there entries.now heap.old.lists (ahead members) members.first) }
+    ensures { heap.new.lists ≡ without heap.old.lists (all_rows_there entries.now heap.old.lists (ahead members.entry) members.entry.first) }
 {
-    let mut entry = at.entry;
-    for shape in shapes {
-        free_lists(heap, entries, shape, at.member(entry));
-        entry += size_of(shape);
+    while let Some((shape, place)) = members.next() {
+        free_lists(heap, entries, shape, place);
     }
 }
 
@@ -265,9 +262,7 @@ pub fn fill<'a>(
             let elements = open_list(heap, entries, at, *stride, first_count(from))?;
             fill_elements(heap, entries, element, elements, behind(from))
         }
-        Shape::Group(members) => {
-            fill_members(heap, entries, members.items.as_slice(), at.inside(), from)
-        }
+        Shape::Group(group) => fill_ahead(heap, entries, Members::of(group, at), from),
     }
 }
 
@@ -296,8 +291,30 @@ fn fill_elements<'a>(
     Ok(left)
 }
 
-/// Fills places one behind another, of which the first begins there.
+// Fills the places of the members that are ahead, one behind another.
 #[cycle(fill)]
+fn fill_ahead<'a>(
+    heap: &mut Heap,
+    entries: &[TocEntry],
+    mut members: Members<'_>,
+    from: &'a [i64],
+) -> Result<&'a [i64], Full>
+    requires pool { footprint heap.old.lists ≤ pool_size }
+    requires region { IsRegion heap.old.lists members.first.region }
+    requires room { RoomForAll entries.now heap.old.lists (ahead members) members.first }
+    ensures pool { OnOk result (footprint heap.new.lists ≤ pool_size) }
+    ensures passed { OnErr result (pool_size < needs_for_all heap.old.lists (ahead members.entry) from.now) }
+    ensures filled { IfOk result (λ rest. FillAllThere entries.now heap.old.lists heap.new.lists (ahead members.entry) members.entry.first from.now rest.now) }
+    ensures stays { some_list (ahead members.entry) ≡ false → OnOk result (RowsStay heap.old.pool heap.new.pool) }
+{
+    let mut left = from;
+    while let Some((shape, place)) = members.next() {
+        left = fill(heap, entries, shape, place, left)?;
+    }
+    Ok(left)
+}
+
+/// Fills places one behind another, of which the first begins there.
 pub fn fill_members<'a>(
     heap: &mut Heap,
     entries: &[TocEntry],
@@ -314,13 +331,7 @@ pub fn fill_members<'a>(
     ensures filled { IfOk result (λ rest. FillAllThere entries.now heap.old.lists heap.new.lists (members (map tree shapes.now)) at from.now rest.now) }
     ensures stays { some_list (members (map tree shapes.now)) ≡ false → OnOk result (RowsStay heap.old.pool heap.new.pool) }
 {
-    let mut left = from;
-    let mut entry = at.entry;
-    for shape in shapes {
-        left = fill(heap, entries, shape, at.member(entry), left)?;
-        entry += size_of(shape);
-    }
-    Ok(left)
+    fill_ahead(heap, entries, Members::from_first(shapes, at), from)
 }
 
 // Frees the lists of the value that stands there, and then fills the place with the value that the numbers begin with, whose

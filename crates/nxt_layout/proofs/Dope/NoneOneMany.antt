@@ -191,7 +191,7 @@ all_few : (g : Ground) (ns rows : List ℕ) → ((r : ℕ) → tally (is_it r) r
 all_few g [] rows h r = h r
 all_few g (n ∷ ns) rows h r = all_few g ns (with_number g rows n) (one_few rows n (names_row g n) h) r
 
-kept_at_most : (g : Ground) (ns : List ℕ) (r : ℕ) → tally (is_it r) (kept_of g ns) ≤ 2
+pub kept_at_most : (g : Ground) (ns : List ℕ) (r : ℕ) → tally (is_it r) (kept_of g ns) ≤ 2
 kept_at_most g ns r = all_few g ns [] (λ r. omega arith) r
 
 kept_named : (g : Ground) (rows : List ℕ) (n : ℕ) (b : Bool) → names_row g n ≡ true → Each (λ r. names_row g r ≡ true) rows → Each (λ r. names_row g r ≡ true) (if b then rows ++ n ∷ [] else rows)

@@ -1,5 +1,5 @@
 -- Places that are kept at most twice tell the same of the numbers that stand there.
-use Rattle.std.proofs.Common.{◌≡◌, ℕ, zero, suc, ◌+◌, ◌-◌, ◌*◌, ◌<◌, ◌≤◌, Bool, true, false, ◌&&◌, ◌||◌, ◌==◌, nat_lt, List, [], ◌∷◌, ◌++◌, filter, fold, All, length, set, get_or-set_same, get_or-set_other, length-set, eq-eqb, inl, inr, if◌then◌else◌, refl, sym, ap, ap₂, ◌∙◌, subst, arith, append_assoc, append-nil, ltb-false}
+use Rattle.std.proofs.Common.{◌≡◌, ℕ, zero, suc, ◌+◌, ◌-◌, ◌*◌, ◌<◌, ◌≤◌, Bool, true, false, ◌&&◌, ◌==◌, nat_lt, List, [], ◌∷◌, ◌++◌, filter, fold, All, length, set, get_or-set_same, get_or-set_other, length-set, eq-eqb, inl, inr, if◌then◌else◌, refl, sym, ap, ap₂, ◌∙◌, subst, arith, append_assoc, append-nil, ltb-false}
 use Rattle.std.specs.Prelude.{slice_index}
 use Rattle.std.proofs.Math.Nat.{mul-le-mul_left}
 use Rattle.std.proofs.lemmas.Bool.{and_from, cases_eq, cases_lt, le-ltb}
@@ -7,12 +7,13 @@ use Rattle.std.proofs.lemmas.List.{map-append}
 use Rattle.std.proofs.lemmas.List.Elements.{All-push}
 use Rattle.std.proofs.lemmas.List.Sums.{fold-append}
 use Rattle.nxt_types.specs.Bytes.{u16_at}
-use Rattle.nxt_layout.specs.declared.named_rows.NamedRows.{NamedRows}
+use Rattle.nxt_layout.specs.declared.named_rows.OrderedRows.{OrderedRows}
 use Rattle.nxt_layout.specs.declared.places.Places.{Places}
+use Rattle.nxt_model.specs.Reading.{row_count}
 use Rattle.nxt_layout.specs.Rows.{Ground, names_row, is_beyond}
 use Rattle.nxt_facts.specs.Places.{places_from}
-use Rattle.nxt_layout.specs.Inside.RowPasses.{times, keep_twice, with_number, kept_of, numbers_in, Takes}
-use Rattle.nxt_layout.specs.Inside.Known.{IsWalked}
+use Rattle.nxt_layout.specs.Inside.RowPasses.{times, keep_twice, with_number, kept_of, ordered, numbers_in}
+use Rattle.nxt_layout.specs.Inside.Known.{AreOrdered, IsWalked}
 use Rattle.nxt_layout.proofs.Dope.Named.{one_more_time}
 use Rattle.nxt_facts.proofs.Sums.{total-map, bit, tally, is_it, tally_is, tally-append}
 use Rattle.nxt_layout.proofs.Dope.NoneOneMany.{AreAlike, cap, tally-filter, counts_it, kept_rows_alike, alike_same, alike_then, alike-append, alike-map, alike_any, kept_alike}
@@ -201,23 +202,17 @@ kept_numbers g place (x ∷ xs) ks =
     kept_numbers g place xs (keep_twice ks x)
     ∙ ap (λ rows. fold (with_number g) rows (numbers_in g place xs)) (one_place g place ks x (nat_lt (times x ks) 2) refl)
 
--- the rows of all numbers, and whether one is past the table's rows
-pub takes_all : (g : Ground) (place : ℕ) (all : List ℕ) (old new : NamedRows) → old.rows.items ≡ [] → Takes g (numbers_in g place (fold keep_twice [] all)) old new → Takes g (numbers_in g place all) old new
-takes_all g place all old new none t =
+-- in order
+pub ordered_all : (g : Ground) (place : ℕ) (all : List ℕ) (o : OrderedRows) → AreOrdered g (numbers_in g place (fold keep_twice [] all)) o → AreOrdered g (numbers_in g place all) o
+ordered_all g place all o is =
     let few = fold keep_twice [] all in
     record {
-      rows = t.rows
-          ∙ ap (λ rows. fold (with_number g) rows (numbers_in g place few)) none
-          ∙ kept_numbers g place all []
-          ∙ sym (ap (λ rows. fold (with_number g) rows (numbers_in g place all)) none);
-      beyond = t.beyond
-          ∙ ap
-          (λ b. old.beyond || b)
-          (alike_any
+      rows = is.rows ∙ ap (ordered (row_count g.memory)) (kept_numbers g place all []);
+      beyond = is.beyond
+          ∙ alike_any
           (is_beyond g)
           (numbers_in g place few)
           (numbers_in g place all)
-          (alike-map (λ base. u16_at g.memory.bytes (base + place)) few all (keep_alike all [])));
-      counted = t.counted;
-      table = t.table;
+          (alike-map (λ base. u16_at g.memory.bytes (base + place)) few all (keep_alike all []));
+      few = is.few;
     }

@@ -1,25 +1,22 @@
 -- What is found through one array.
-use Rattle.std.proofs.Common.{◌≡◌, ℕ, ◌+◌, ◌-◌, ◌<◌, ◌≤◌, ◌^◌, Bool, true, false, if◌then◌else◌, ◌&&◌, List, [], ◌∷◌, ◌++◌, filter, length, drop, get_or, append_assoc, Option, sym, ap, ap₂, ◌∙◌, arith, subst}
+use Rattle.std.proofs.Common.{◌≡◌, ℕ, ◌+◌, ◌-◌, ◌<◌, ◌≤◌, ◌^◌, Bool, true, false, if◌then◌else◌, ◌&&◌, List, [], ◌∷◌, ◌++◌, filter, length, drop, get_or, append_assoc, Option, sym, ap, ◌∙◌, arith, subst}
 use Rattle.std.specs.Rc.{rc_slice_items}
 use Rattle.std.proofs.lemmas.Bool.{and_parts}
 use Rattle.std.proofs.lemmas.List.{drop_more}
 use Rattle.std.proofs.lemmas.List.Elements.{All-from_recursion}
 use Rattle.std.proofs.lemmas.List.Sums.{length-filter, count_by-le-length}
-use Rattle.nxt_model.specs.Reading.{row_count}
 use Rattle.nxt_layout.specs.declared.known.Found.{Found}
 use Rattle.nxt_table.specs.declared.leaves.PlacedLeaf.{PlacedLeaf}
-use Rattle.nxt_layout.specs.declared.named_rows.NamedRows.{NamedRows}
+use Rattle.nxt_layout.specs.declared.named_rows.OrderedRows.{OrderedRows}
 use Rattle.nxt_layout.specs.declared.reach.OpenArray.{OpenArray}
 use Rattle.nxt_layout.specs.declared.spans.Span.{Span}
 use Rattle.nxt_table.specs.Inside.Owners.{least_of}
 use Rattle.nxt_layout.specs.Rows.{Ground, is_placed, is_strided_by, read_by}
-use Rattle.nxt_layout.specs.Inside.RowPasses.{Through, Opened, is_array_item, array_leaves, back_to, open_by, through_from, ordered, rows_of, numbers_in, least, row_span, spans_from, places_in, through_by, Takes}
-use Rattle.nxt_layout.specs.Inside.Known.{ArePlaced, IsOpen, IsToldBy, IsFoundIn, IsNaming, IsSame}
+use Rattle.nxt_layout.specs.Inside.RowPasses.{Through, Opened, is_array_item, array_leaves, back_to, open_by, through_from, rows_of, numbers_in, least, row_span, spans_from, places_in, through_by}
+use Rattle.nxt_layout.specs.Inside.Known.{ArePlaced, AreOrdered, IsOpen, IsToldBy, IsFoundIn, IsSame}
 use Rattle.nxt_layout.proofs.Dope.Searches.{spans_next}
 use Rattle.nxt_facts.proofs.Each.{each_from, each_filter}
 use Rattle.nxt_layout.proofs.Dope.Strides.{least_of_assoc, least-append}
-use Rattle.nxt_layout.proofs.Dope.NoneOneMany.{rows_few}
-use Rattle.nxt_layout.proofs.Dope.Joined.{naming_from}
 
 -- ---- what is read
 
@@ -41,24 +38,17 @@ read_placed g bytes rows =
 -- ---- what is found
 
 -- what names tell
-pub told_naming : (g : Ground) (place bytes : ℕ) (bases : List ℕ) (names : NamedRows) (lists : ℕ) (f : Found) → IsNaming g (numbers_in g place bases) names → lists ≡ length bases → lists ≤ 2 ^ 33 → row_count g.memory < 2 ^ 16 → IsToldBy g bytes names lists f → IsFoundIn g place bytes bases f
-told_naming g place bytes bases names lists f naming count bound h told =
-    let numbers = numbers_in g place bases in
-    let kept = ordered names.table_rows names.rows.items in
-    let rows : kept ≡ rows_of g numbers = ap₂ ordered naming.table naming.rows in
+pub told_ordered : (g : Ground) (place bytes : ℕ) (bases : List ℕ) (names : OrderedRows) (lists : ℕ) (f : Found) → AreOrdered g (numbers_in g place bases) names → lists ≡ length bases → lists ≤ 2 ^ 33 → IsToldBy g bytes names lists f → IsFoundIn g place bytes bases f
+told_ordered g place bytes bases names lists f is count bound told =
+    let kept = names.rows.items in
     record {
-      rows = told.rows ∙ rows;
-      read = told.read ∙ ap (read_by g bytes) rows;
+      rows = told.rows ∙ is.rows;
+      read = told.read ∙ ap (read_by g bytes) is.rows;
       lists = told.lists ∙ count;
-      beyond = told.beyond ∙ naming.beyond;
+      beyond = told.beyond ∙ is.beyond;
       bound = subst (λ n. n ≤ 2 ^ 33) (sym told.lists) bound;
-      few = omega (arith, h, ap length told.read, ap length rows, filter_short (λ r. is_placed g r && is_strided_by g bytes kept r) kept, rows_few g numbers);
+      few = omega (arith, is.few, ap length told.read, filter_short (λ r. is_placed g r && is_strided_by g bytes kept r) kept);
     }
-
--- what names tell that were taken from nothing
-pub told_in : (g : Ground) (place bytes : ℕ) (bases : List ℕ) (old new : NamedRows) (lists : ℕ) (f : Found) → old.rows.items ≡ [] → old.beyond ≡ false → Takes g (numbers_in g place bases) old new → lists ≡ length bases → lists ≤ 2 ^ 33 → row_count g.memory < 2 ^ 16 → old.table_rows ≡ row_count g.memory → IsToldBy g bytes new lists f → IsFoundIn g place bytes bases f
-told_in g place bytes bases old new lists f none unbeyond t count bound h table told =
-    told_naming g place bytes bases new lists f (naming_from g (numbers_in g place bases) old new none unbeyond table t) count bound h told
 
 -- the array of a leaf, and its elements
 pub found_through : (g : Ground) (ext : ℕ → ℕ) (l : PlacedLeaf) (bytes : ℕ) (bases : List ℕ) (f : Found) → IsFoundIn g l.place bytes bases f → bytes ≡ ext l.entry → record { entry = l.entry; bytes = bytes; rows = rc_slice_items f.rows; lists = f.lists; beyond = f.beyond } ≡ through_by g ext l bases

@@ -1,5 +1,5 @@
 -- What is found in the elements of rows, and kept for the next time.
-use Rattle.std.specs.Prelude.{ℕ, ◌+◌, ◌*◌, ◌<◌, ◌≤◌, ◌≡◌, ◌^◌, true, List, All, flat_map, length, slice_index, Some}
+use Rattle.std.specs.Prelude.{ℕ, ◌+◌, ◌*◌, ◌<◌, ◌≤◌, ◌≡◌, ◌^◌, true, List, [], All, flat_map, fold, length, slice_index, IfSome, Some}
 use Rattle.std.specs.declared.alloc.Global.{Global}
 use Rattle.std.specs.declared.cmp.Ordering.{Ordering}
 use Rattle.std.specs.declared.collections.BTreeMap.{BTreeMap}
@@ -9,14 +9,19 @@ use Rattle.std.specs.Cmp.Lexicographic.{slice_cmp}
 use Rattle.std.specs.List.{list_any}
 use Rattle.std.specs.Ordering.{nat_cmp, ordering_then}
 use Rattle.std.specs.Rc.{rc_slice_items}
+use Rattle.nxt_layout.specs.declared.by_row.NamesByRow.{NamesByRow}
 use Rattle.nxt_layout.specs.declared.known.Found.{Found}
 use Rattle.nxt_layout.specs.declared.known.Known.{Known}
 use Rattle.nxt_layout.specs.declared.named_rows.NamedRows.{NamedRows}
+use Rattle.nxt_layout.specs.declared.named_rows.OrderedRows.{OrderedRows}
 use Rattle.nxt_layout.specs.declared.places.Places.{Places}
 use Rattle.nxt_layout.specs.declared.reach.OpenArray.{OpenArray}
+use Rattle.nxt_layout.specs.declared.reading.Reading.{Reading}
+use Rattle.nxt_layout.specs.declared.walked.WalkedRows.{WalkedRows}
 use Rattle.nxt_model.specs.Reading.{row_count}
 use Rattle.nxt_layout.specs.Rows.{Ground, is_placed, is_beyond, read_by, elements_of}
-use Rattle.nxt_layout.specs.Inside.RowPasses.{times, kept_of, ordered, rows_of, numbers_in, IsCounted}
+use Rattle.nxt_layout.specs.Inside.Lanes.{AreLanes}
+use Rattle.nxt_layout.specs.Inside.RowPasses.{times, keep_twice, kept_of, rows_of, numbers_in, IsCounted}
 
 -- the rows lie in the dataspace
 abbrev pub ArePlaced : Ground → List ℕ → Type 0
@@ -34,10 +39,20 @@ pub record IsWalked (p : Places) : Type 0 where
   pub full : (q k : ℕ) → q < length p.times.items → k < slice_index p.steps.items q → 2 ≤ times (q + k * p.stride) p.kept.items
   pub small : All (λ q. q ≤ 65535 * 65535) p.kept.items
 
+-- these are the places of the elements of its rows, each at most twice, and what is read there at once is right
+pub record HasPlaces (g : Ground) (w : WalkedRows) : Type 0 where
+  pub places : w.places.kept.items ≡ fold keep_twice [] (flat_map (elements_of g) w.rows.items)
+  pub walked : IsWalked w.places
+  pub lanes : IfSome w.lanes (AreLanes g w.places.kept.items)
+
+-- those of its rows are read where an element takes its bytes
+abbrev pub AreRead : Ground → Reading → Type 0
+AreRead g r = rc_slice_items r.read ≡ read_by g r.bytes (rc_slice_items r.rows)
+
 -- these names of so many lists tell it, where an element takes so many bytes
-pub record IsToldBy (g : Ground) (bytes : ℕ) (n : NamedRows) (count : ℕ) (f : Found) : Type 0 where
-  pub rows : rc_slice_items f.rows ≡ ordered n.table_rows n.rows.items
-  pub read : rc_slice_items f.read ≡ read_by g bytes (ordered n.table_rows n.rows.items)
+pub record IsToldBy (g : Ground) (bytes : ℕ) (n : OrderedRows) (count : ℕ) (f : Found) : Type 0 where
+  pub rows : rc_slice_items f.rows ≡ n.rows.items
+  pub read : rc_slice_items f.read ≡ read_by g bytes n.rows.items
   pub lists : f.lists ≡ count
   pub beyond : f.beyond ≡ n.beyond
 
@@ -78,9 +93,18 @@ pub record IsNaming (g : Ground) (numbers : List ℕ) (n : NamedRows) : Type 0 w
   pub counted : IsCounted n
   pub table : n.table_rows ≡ row_count g.memory
 
+-- these are the rows that these numbers name, in order
+pub record AreOrdered (g : Ground) (numbers : List ℕ) (o : OrderedRows) : Type 0 where
+  pub rows : o.rows.items ≡ rows_of g numbers
+  pub beyond : o.beyond ≡ list_any (is_beyond g) numbers
+  pub few : length o.rows.items ≤ 2 ^ 17
+
 -- those at a place in the elements of these rows
 abbrev pub IsNamingIn : Ground → ℕ → List ℕ → NamedRows → Type 0
 IsNamingIn g place rows n = IsNaming g (numbers_in g place (flat_map (elements_of g) rows)) n
+
+abbrev pub IsOrderedIn : Ground → ℕ → List ℕ → OrderedRows → Type 0
+IsOrderedIn g place rows o = AreOrdered g (numbers_in g place (flat_map (elements_of g) rows)) o
 
 -- a place and a row
 abbrev pub RowKey : Type 0
@@ -94,7 +118,13 @@ abbrev pub AreNamed : Ground → BTreeMap RowKey NamedRows Global → Type 0
 AreNamed g names =
     (k : RowKey) (n : NamedRows) → get row_key_cmp names k ≡ Some n → IsNaming g (numbers_in g k.0 (elements_of g k.1)) n
 
+-- the names of single rows and the places are right
+pub record KnowsRows (g : Ground) (n : NamesByRow) : Type 0 where
+  pub named : AreNamed g n.names
+  pub walked : HasPlaces g n.walked
+
 -- all that is kept is right
 pub record IsKnown (g : Ground) (known : Known) : Type 0 where
   pub found : AreFound g known.found
-  pub named : AreNamed g known.names.names
+  pub named : KnowsRows g known.names
+  pub last : IfSome known.last (AreRead g)

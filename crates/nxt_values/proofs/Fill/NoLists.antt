@@ -1,23 +1,20 @@
 -- Values in which no list stands, and lists of such values.
-use Rattle.std.proofs.Common.{◌≡◌, ℕ, zero, suc, true, false, List, [], ◌∷◌, map, drop, Box, Global, refl, subst}
+use Rattle.std.proofs.Common.{◌≡◌, ℕ, true, false, List, Box, Global, refl, sym, ap, ◌∙◌}
 use Rattle.std.specs.Prelude.{ℤ}
 use Rattle.std.proofs.lemmas.Bool.{or_parts}
-use Rattle.nxt_types.specs.Shapes.{Shape, Void, Number, Array, Cluster, Mutex, members, has_list, some_list, tree}
+use Rattle.nxt_types.specs.Shapes.{Shape, Void, Number, Array, Cluster, Mutex, has_list, some_list, tree}
 use Rattle.nxt_types.specs.declared.shape.Shape as seen
 use Rattle.nxt_types.specs.declared.shape.TocEntry.{TocEntry}
 use Rattle.nxt_heap.specs.Lists.{Lists}
+use Rattle.nxt_values.specs.Ahead.{ahead, IsNext}
 use Rattle.nxt_values.specs.Writes.{has_inner_list}
 use Rattle.nxt_values.specs.Elements.{GetsNoLonger}
+use Rattle.nxt_values.specs.declared.members.Members as cursor
 use Rattle.nxt_values.specs.declared.reading.Place.{Place}
 
--- of members without lists each is one
-pub none_among : (xs : List seen.Shape) (i : ℕ) (x : seen.Shape) (rest : List seen.Shape) → drop i xs ≡ x ∷ rest → some_list (members (map tree xs)) ≡ false → has_list (tree x) ≡ false
-none_among [] zero x rest is none = let f : ⊥ = cc in absurd f
-none_among [] (suc i) x rest is none = let f : ⊥ = cc in absurd f
-none_among (y ∷ ys) zero x rest is none =
-    let same : y ≡ x = cc in
-    subst (λ z. has_list (tree z) ≡ false) same (or_parts (has_list (tree y)) (some_list (members (map tree ys))) none).0
-none_among (y ∷ ys) (suc i) x rest is none = none_among ys i x rest is (or_parts (has_list (tree y)) (some_list (members (map tree ys))) none).1
+-- of members without lists the first is one, and so are the others
+pub none_ahead : {old new : cursor.Members} {s : Shape} {at : Place} → IsNext old s at new → some_list (ahead old) ≡ false → (has_list s ≡ false) × (some_list (ahead new) ≡ false)
+none_ahead {old} {new} {s} step none = or_parts (has_list s) (some_list (ahead new)) (sym (ap some_list step.shapes) ∙ none)
 
 -- a value in a part of which a list stands
 pub inner_list : (s : Shape) → has_inner_list s ≡ true → has_list s ≡ false → ⊥

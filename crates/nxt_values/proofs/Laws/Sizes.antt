@@ -6,7 +6,7 @@ use Rattle.std.proofs.lemmas.List.{length-map}
 use Rattle.std.proofs.lemmas.List.Sums.{sum_by-cons}
 use Rattle.nxt_types.specs.Shapes.{Shape, Void, Number, Array, Cluster, Mutex, Members, member, is_number}
 use Rattle.nxt_types.specs.declared.kind.Kind.{Kind}
-use Rattle.nxt_types.specs.Names.{sizes}
+use Rattle.nxt_types.specs.Names.{size, sizes}
 use Rattle.nxt_types.specs.declared.shape.TocEntry.{TocEntry}
 use Rattle.nxt_model.specs.Values.{Value, Values, ListOf, values, items, many, lists_among, value}
 use Rattle.nxt_model.specs.Footprint.{list_bytes, member_bytes}
@@ -15,8 +15,9 @@ use Rattle.nxt_model.proofs.Laws.Values.{items-values}
 use Rattle.nxt_facts.specs.Places.{places_from}
 use Rattle.nxt_facts.proofs.Places.{length-places}
 use Rattle.nxt_heap.specs.Lists.{Lists, bytes_at}
-use Rattle.nxt_values.specs.Held.{value_at, values_among, HoldAll}
-use Rattle.nxt_values.specs.Regions.{value_there}
+use Rattle.nxt_values.specs.Held.{value_at}
+use Rattle.nxt_values.specs.Regions.{value_there, values_there}
+use Rattle.nxt_values.specs.Ahead.{behind}
 use Rattle.nxt_values.specs.Fills.{first_of, filled, all_filled}
 use Rattle.nxt_values.specs.Sizes.{IsCountable, size_in, size_there, sizes_there, size_of_filled, size_of_all_filled}
 use Rattle.nxt_values.specs.Elements.{AreElements, element_place}
@@ -24,6 +25,7 @@ use Rattle.nxt_values.specs.declared.elements.Elements.{Elements}
 use Rattle.nxt_values.specs.declared.reading.Place.{Place}
 use Rattle.nxt_values.specs.declared.sizing.Size.{Size}
 use Rattle.nxt_values.proofs.Laws.Elements.{elements_value}
+use Rattle.nxt_values.proofs.Laws.Members.{AreThere, others_there}
 use Rattle.nxt_values.proofs.Laws.FilledElements.{items_many}
 
 -- ---- parts of a whole
@@ -91,7 +93,7 @@ member_countable e small =
 -- ---- values that stand in the heap
 
 -- the members of a group are as great as it
-pub group_countable : (table : List TocEntry) (h : Lists) (ss : Members) (whole : Shape) (at : Place) → whole ≡ Cluster ss → IsCountable (size_there table h whole at) → IsCountable (sizes_there table h ss (record { region = at.region; entry = at.entry + 1; base = at.base }))
+pub group_countable : (table : List TocEntry) (h : Lists) (ss : Members) (whole : Shape) (at : Place) → whole ≡ Cluster ss → IsCountable (size_there table h whole at) → IsCountable (sizes_there table h ss (behind at 1))
 group_countable table h ss whole at is small =
     let e : IsCountable (size_there table h (Cluster ss) at) = subst (λ w. IsCountable (size_there table h w at)) is small in
     record { lists = e.lists; bytes = e.bytes }
@@ -100,12 +102,21 @@ group_countable table h ss whole at is small =
 pub record ElementsHeld (table : List TocEntry) (h : Lists) (s : Shape) (e : Elements) (k : ℕ) (inner whole : Size) : Type 0 where
   pub elements : Counted s (round4 (e.count * e.stride)) inner (values (map (value_at table h s e.entry (bytes_at h e.row)) (places_from (k * e.stride) e.stride (e.count - k)))) whole
 
--- of the members that take so many entries from the first on these are still to be counted
-pub record MembersHeld (table : List TocEntry) (h : Lists) (bytes : List ℕ) (base first all : ℕ) (ss : Members) (entry : ℕ) (sum whole : Size) : Type 0 where
-  pub behind : first ≤ entry
-  pub entries : entry + sizes ss ≡ first + all
-  pub holds : HoldAll table h ss entry bytes base
-  pub parts : Parts ss sum (values (values_among table h ss entry bytes base)) whole
+-- these members are still to be counted
+pub record MembersHeld (table : List TocEntry) (h : Lists) (all : ℕ) (whole sum : Size) (ss : Members) (p : Place) : Type 0 where
+  pub there : AreThere table h all ss p
+  pub parts : Parts ss sum (values (values_there table h ss p)) whole
+
+-- the first was counted
+pub member_counted : {table : List TocEntry} {h : Lists} {all : ℕ} {whole sum one more : Size} {s : Shape} {ss : Members} {at : Place} → MembersHeld table h all whole sum (member s ss) at → one ≡ size_there table h s at → more ≡ both sum one → MembersHeld table h all whole more ss (behind at (size s))
+member_counted {table} {h} {all} {whole} {sum} {one} {more} {s} {ss} {at} e is added =
+    record {
+      there = others_there e.there;
+      parts = subst
+          (λ z. Parts ss z (values (values_there table h ss (behind at (size s)))) whole)
+          (sym (added ∙ ap (both sum) is))
+          (record { lists = omega (arith, e.parts.lists); bytes = omega (arith, e.parts.bytes) });
+    }
 
 -- all elements of the list are still to be counted
 pub held_begin : {table : List TocEntry} {h : Lists} {s whole : Shape} {stride : ℕ} {list : Place} {e : Elements} → AreElements table h stride list e → whole ≡ Array stride s → ElementsHeld table h s e 0 nothing (size_there table h whole list)

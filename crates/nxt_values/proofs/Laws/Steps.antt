@@ -16,8 +16,9 @@ use Rattle.nxt_heap.specs.Lists.{Lists, bytes_at, IsAlive, footprint}
 use Rattle.nxt_values.specs.Held.{leaf_place}
 use Rattle.nxt_values.specs.Regions.{bytes_in, IsRegion}
 use Rattle.nxt_model.specs.Spans.{span, spans, spans_among, IsApart, FitsIn, AreApart}
+use Rattle.nxt_values.specs.Ahead.{behind}
 use Rattle.nxt_values.specs.Writes.{with_bytes, put, bytes_of_number}
-use Rattle.nxt_values.specs.Fills.{first_of, filled, all_filled, needs, needs_for, needs_for_all, needs_for_each, lists_of, bytes_of_lists, Fills, FillsAll, FillsEach, HasRoom, AllHaveRoom, FillsThere, RoomThere}
+use Rattle.nxt_values.specs.Fills.{first_of, filled, all_filled, needs, needs_for, needs_for_all, needs_for_each, lists_of, bytes_of_lists, Fills, FillsAll, FillsEach, HasRoom, AllHaveRoom, FillsThere, FillAllThere, RoomThere, RoomForAll}
 use Rattle.nxt_values.specs.Elements.{element_place, HaveRoom, FillsElements}
 use Rattle.nxt_values.specs.declared.elements.Elements.{Elements}
 use Rattle.nxt_values.specs.declared.reading.Region.{Region}
@@ -126,17 +127,14 @@ element_done {table} {g} {f} {s} {e} {k} {place} {left} {next} {total} {Whole} a
 
 -- ---- members
 
--- of the members that take so many entries from the first on these are still to be filled, and whatever fills them fills
--- the whole
-pub record MembersLeft (table : List TocEntry) (g : Lists) (region : Region) (base n first all : ℕ) (ss : Members) (entry : ℕ) (left : List ℤ) (total : ℕ) (Whole : Lists → List ℤ → Type 0) : Type 0 where
-  pub behind : first ≤ entry
-  pub entries : entry + sizes ss ≡ first + all
+-- these members take no more than so many entries and are still to be filled, and whatever fills them fills the whole
+pub record MembersLeft (table : List TocEntry) (g : Lists) (all : ℕ) (left : List ℤ) (total : ℕ) (Whole : Lists → List ℤ → Type 0) (ss : Members) (p : Place) : Type 0 where
+  pub less : sizes ss ≤ all
   pub pool : footprint g ≤ pool_size
-  pub there : IsRegion g region
-  pub long : length (bytes_in g region) ≡ n
-  pub room : AllHaveRoom table ss entry base n
+  pub there : IsRegion g p.region
+  pub room : RoomForAll table g ss p
   pub needed : needs_for_all g ss left ≡ total
-  pub onward : (f : Lists) (rest : List ℤ) → FillsAll table g f ss entry region base left rest → Whole f rest
+  pub onward : (f : Lists) (rest : List ℤ) → FillAllThere table g f ss p left rest → Whole f rest
 
 pub member_room : (table : List TocEntry) (s : Shape) (ss : Members) (entry base n : ℕ) → AllHaveRoom table (member s ss) entry base n → HasRoom table s entry base n
 member_room table s ss entry base n e =
@@ -146,23 +144,24 @@ member_room table s ss entry base n e =
       fits = e.fits.0;
     }
 
-pub member_done : (table : List TocEntry) (g f : Lists) (region : Region) (base n first all : ℕ) (s : Shape) (ss : Members) (entry : ℕ) (left next : List ℤ) (total : ℕ) (Whole : Lists → List ℤ → Type 0) → MembersLeft table g region base n first all (member s ss) entry left total Whole → footprint f ≤ pool_size → Fills table g f s entry region base left next → MembersLeft table f region base n first all ss (entry + size s) next total Whole
-member_done table g f region base n first all s ss entry left next total Whole e pool fills =
-    let parts = pair_parts IsApart (spans table s entry) (spans_among table ss (entry + size s)) e.room.apart in
+pub member_done : {table : List TocEntry} {g f : Lists} {all : ℕ} {left next : List ℤ} {total : ℕ} {Whole : Lists → List ℤ → Type 0} {s : Shape} {ss : Members} {at : Place} → MembersLeft table g all left total Whole (member s ss) at → footprint f ≤ pool_size → FillsThere table g f s at left next → MembersLeft table f all next total Whole ss (behind at (size s))
+member_done {table} {g} {f} {all} {left} {next} {total} {Whole} {s} {ss} {at} e pool fills =
+    let parts = pair_parts IsApart (spans table s at.entry) (spans_among table ss (at.entry + size s)) e.room.apart in
     record {
-      behind = omega (arith, e.behind);
-      entries = omega (arith, e.entries);
+      less = omega (arith, e.less);
       pool = pool;
       there = fills.grows.there;
-      long = fills.grows.long ∙ e.long;
-      room = record { within = e.room.within; apart = parts.rest; fits = e.room.fits.1 };
+      room = subst
+          (AllHaveRoom table ss (at.entry + size s) at.base)
+          (sym fills.grows.long)
+          (record { within = e.room.within; apart = parts.rest; fits = e.room.fits.1 });
       needed = sym (fills.spends (lists_among (all_filled ss next).0) (member_bytes ss (items (all_filled ss next).0)))
           ∙ ap
           (λ z. needs g (lists_in (filled s left).0 + lists_among (all_filled ss z).0) (list_bytes s (filled s left).0 + member_bytes ss (items (all_filled ss z).0)))
           fills.others
           ∙ e.needed;
       onward = λ x rest others.
-          e.onward x rest (member_filled table g f x s ss entry region base left next rest e.there parts.across fills others);
+          e.onward x rest (member_filled table g f x s ss at.entry at.region at.base left next rest e.there parts.across fills others);
     }
 
 -- ---- where the elements begin and end
@@ -197,12 +196,12 @@ elements_end {table} {g} {s} {e} {k} {left} all end =
     none
     (no_element_filled table g s e.entry e.row e.stride (k * e.stride) left all.alive))
 
-pub members_end : (table : List TocEntry) (g : Lists) (region : Region) (base n first all : ℕ) (ss : Members) (entry : ℕ) (left : List ℤ) (total : ℕ) (Whole : Lists → List ℤ → Type 0) → ss ≡ no_members → MembersLeft table g region base n first all ss entry left total Whole → Whole g left
-members_end table g region base n first all ss entry left total Whole none e =
+pub members_end : {table : List TocEntry} {g : Lists} {all : ℕ} {left : List ℤ} {total : ℕ} {Whole : Lists → List ℤ → Type 0} {ss : Members} {p : Place} → ss ≡ no_members → MembersLeft table g all left total Whole ss p → Whole g left
+members_end {table} {g} {all} {left} {total} {Whole} {ss} {p} none e =
     e.onward
     g
     left
-    (subst (λ ts. FillsAll table g g ts entry region base left left) (sym none) (none_filled table g entry region base left e.there))
+    (subst (λ ts. FillAllThere table g g ts p left left) (sym none) (none_filled table g p.entry p.region p.base left e.there))
 
 -- ---- what the pool does not hold
 
@@ -219,14 +218,4 @@ element_passed {table} {g} {s} {e} {k} {left} all less passed =
       next_needs g s m left next refl,
       ap (λ n. needs g (lists_of s n left) (bytes_of_lists s n left)) is,
       all.needed,
-    )
-
-pub member_passed : (table : List TocEntry) (g : Lists) (region : Region) (base n first all : ℕ) (s : Shape) (ss : Members) (entry : ℕ) (left : List ℤ) (total : ℕ) (Whole : Lists → List ℤ → Type 0) → MembersLeft table g region base n first all (member s ss) entry left total Whole → pool_size < needs_for g s left → pool_size < total
-member_passed table g region base n first all s ss entry left total Whole e passed =
-    let others = (all_filled ss (filled s left).1).0 in
-    omega (
-      arith,
-      passed,
-      needs_more g (lists_in (filled s left).0) (list_bytes s (filled s left).0) (lists_among others) (member_bytes ss (items others)),
-      e.needed,
     )

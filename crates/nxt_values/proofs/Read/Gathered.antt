@@ -1,10 +1,11 @@
 -- Flat forms that are put together, member by member and element by element.
 use Rattle.std.proofs.Common.{◌≡◌, ℕ, ◌+◌, ◌*◌, ◌≤◌, List, [], ◌∷◌, ◌++◌, map, length, take, sym, ap, ◌∙◌, arith, append_assoc, append-nil}
 use Rattle.std.specs.Prelude.{ℤ, pos}
+use Rattle.std.proofs.Math.Seq.{take-append_seam}
 use Rattle.std.proofs.lemmas.List.{length-map, length-take, take-take}
 use Rattle.nxt_facts.proofs.Places.{places_more}
-use Rattle.nxt_types.specs.Shapes.{Shape, Array, Members}
-use Rattle.nxt_types.specs.Names.{sizes}
+use Rattle.nxt_types.specs.Shapes.{Shape, Array, Members, member}
+use Rattle.nxt_types.specs.Names.{size}
 use Rattle.nxt_types.specs.declared.shape.TocEntry.{TocEntry}
 use Rattle.nxt_model.specs.Values.{Value, values, list_of, flat, flats}
 use Rattle.nxt_model.proofs.Laws.Values.{items-values}
@@ -12,11 +13,13 @@ use Rattle.nxt_facts.specs.Places.{places_from}
 use Rattle.nxt_facts.proofs.Places.{length-places}
 use Rattle.nxt_heap.specs.Lists.{Lists, bytes_at}
 use Rattle.nxt_values.specs.Elements.{AreElements, element_place}
-use Rattle.nxt_values.specs.Regions.{value_there}
+use Rattle.nxt_values.specs.Regions.{value_there, values_there}
+use Rattle.nxt_values.specs.Ahead.{behind}
 use Rattle.nxt_values.specs.declared.elements.Elements.{Elements}
 use Rattle.nxt_values.specs.declared.reading.Place.{Place}
-use Rattle.nxt_values.specs.Held.{value_at, values_among, HoldAll}
+use Rattle.nxt_values.specs.Held.{value_at}
 use Rattle.nxt_values.proofs.Laws.Elements.{elements_value}
+use Rattle.nxt_values.proofs.Laws.Members.{AreThere, others_there}
 
 -- ---- what was there
 
@@ -28,13 +31,22 @@ front_then xs ys zs first next =
 
 -- ---- members
 
--- of the members that take so many entries from the first on, these are still to be added
-pub record Left (table : List TocEntry) (h : Lists) (bytes : List ℕ) (base first all : ℕ) (ss : Members) (entry : ℕ) (old into whole : List ℤ) : Type 0 where
-  pub behind : first ≤ entry
-  pub entries : entry + sizes ss ≡ first + all
-  pub holds : HoldAll table h ss entry bytes base
+-- these members are still to be added
+pub record Left (table : List TocEntry) (h : Lists) (all : ℕ) (old whole into : List ℤ) (ss : Members) (p : Place) : Type 0 where
+  pub there : AreThere table h all ss p
   pub front : take (length old) into ≡ old
-  pub both : into ++ flats (values (values_among table h ss entry bytes base)) ≡ whole
+  pub both : into ++ flats (values (values_there table h ss p)) ≡ whole
+
+-- the first was added
+pub member_added : {table : List TocEntry} {h : Lists} {all : ℕ} {old whole into more : List ℤ} {s : Shape} {ss : Members} {at : Place} → Left table h all old whole into (member s ss) at → more ≡ into ++ flat (value_there table h s at) → Left table h all old whole more ss (behind at (size s))
+member_added {table} {h} {all} {old} {whole} {into} {more} {s} {ss} {at} e added =
+    let one = flat (value_there table h s at) in
+    let rest = flats (values (values_there table h ss (behind at (size s)))) in
+    record {
+      there = others_there e.there;
+      front = front_then old into more e.front (ap (take (length into)) added ∙ take-append_seam into one);
+      both = ap (λ zs. zs ++ rest) added ∙ append_assoc into one rest ∙ e.both;
+    }
 
 -- ---- elements
 

@@ -1,10 +1,9 @@
 -- The names in the elements tell what is found.
-use Rattle.std.proofs.Common.{rules, ◌<◌, ◌^◌, arith, flat_map}
+use Rattle.std.proofs.Common.{flat_map}
 use Rattle.std.proofs.lemmas.Result.{IfOk-weaker}
-use Rattle.nxt_model.specs.Reading.{row_count}
 use Rattle.nxt_layout.specs.Rows.{elements_of}
 use Rattle.nxt_layout.specs.Inside.RowPasses.{ground_of}
-use Rattle.nxt_layout.proofs.Dope.Through.{told_naming}
+use Rattle.nxt_layout.proofs.Dope.Through.{told_ordered}
 use Rattle.nxt_layout.proofs.known.found_anew.Goals as goal
 
 pub returns-clause-found : goal.returns-clause-found
@@ -12,9 +11,6 @@ returns-clause-found c =
     let g = ground_of c.args.space.now in
     let all = flat_map (elements_of g) c.args.rows.now in
     let names = c.in_ok-names.names in
-    let naming = c.in_ok-names.ensures.names in
-    let fits : names.table_rows < 2 ^ 16 = search rules in
-    let few : row_count g.memory < 2 ^ 16 = omega (arith, fits, naming.table) in
     IfOk-weaker c.found_of.result _ _
-    (λ f told. told_naming g c.args.place c.args.bytes all names c.elements-lists.result f naming c.elements-lists.ensures.count c.elements-lists.ensures.bound few told)
-    c.found_of.ensures
+    (λ f told. told_ordered g c.args.place c.args.bytes all names c.elements-lists.result f c.in_ok-names.ensures.names c.elements-lists.ensures.count c.elements-lists.ensures.bound told)
+    c.found_of.ensures.told

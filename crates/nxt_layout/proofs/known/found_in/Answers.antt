@@ -30,6 +30,7 @@ returns-clause-known c =
     let right : IsFoundIn g key.0 key.1 (flat_map (elements_of g) (rc_slice_items key.2)) found =
     subst (λ rs. IsFoundIn g c.args.place c.args.bytes (flat_map (elements_of g) rs) found) rows c.in_ok-found.ensures.found in
     record {
-      found = found_more g c.args.known.now.found c.insert.new.self key found c.requires.known.found right c.in_ok-_none.ensures.updates.0;
-      named = c.in_ok-found.ensures.named;
+      found = found_more g c.found_anew.new.known.found c.insert.new.self key found c.in_ok-found.ensures.known.found right c.in_ok-_none.ensures.updates.0;
+      named = c.in_ok-found.ensures.known.named;
+      last = c.in_ok-found.ensures.known.last;
     }

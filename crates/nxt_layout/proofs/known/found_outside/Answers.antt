@@ -1,17 +1,14 @@
 -- The number outside is that of one element at 0.
-use Rattle.std.proofs.Common.{rules, ◌≡◌, ℕ, ◌+◌, ◌<◌, ◌≤◌, ◌^◌, [], ◌∷◌, refl, ap, subst, ◌∙◌, arith}
+use Rattle.std.proofs.Common.{◌≡◌, ℕ, ◌+◌, ◌≤◌, ◌^◌, [], ◌∷◌, refl, ap, subst, ◌∙◌, arith}
 use Rattle.std.proofs.lemmas.Result.{IfOk-weaker}
 use Rattle.nxt_types.specs.Bytes.{u16_at}
-use Rattle.nxt_model.specs.Reading.{row_count}
 use Rattle.nxt_layout.specs.Inside.RowPasses.{ground_of, Takes}
-use Rattle.nxt_layout.proofs.Dope.Through.{told_in}
+use Rattle.nxt_layout.proofs.Dope.Joined.{naming_from}
+use Rattle.nxt_layout.proofs.Dope.Through.{told_ordered}
 use Rattle.nxt_layout.proofs.known.found_outside.Goals as goal
 
 zero_more : (n : ℕ) → n ≡ 0 + n
 zero_more n = omega arith
-
-pub found_of-requires : goal.found_of-requires
-found_of-requires c = (c.in_ok-take.ensures.taken (ground_of c.args.space.now) (c.in_ok-names.ensures.table ∙ c.rows.ensures)).counted
 
 pub returns : goal.returns
 returns c =
@@ -27,7 +24,7 @@ returns c =
     (c.in_ok-take.ensures.taken g table)
     in
     let one : 1 ≤ 2 ^ 33 = omega arith in
-    let few : row_count g.memory < 2 ^ 16 = search rules in
+    let naming = naming_from g (u16_at g.memory.bytes (0 + place) ∷ []) names c.take.new.self none c.in_ok-names.ensures.beyond table takes in
     IfOk-weaker c.found_of.result _ _
-    (λ f told. told_in g place c.args.bytes (0 ∷ []) names c.take.new.self 1 f none c.in_ok-names.ensures.beyond takes refl one few table told)
-    c.found_of.ensures
+    (λ f told. told_ordered g place c.args.bytes (0 ∷ []) _ 1 f (c.in_ok-ordered.ensures g (u16_at g.memory.bytes (0 + place) ∷ []) naming) refl one told)
+    c.found_of.ensures.told

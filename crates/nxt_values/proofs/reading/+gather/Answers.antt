@@ -1,15 +1,13 @@
 -- A list's elements and a group's members are lesser shapes, which hold values too.
-use Rattle.std.proofs.Common.{◌≡◌, ◌+◌, ◌++◌, ◌∷◌, OnOk, length, map, drop, take, ap, sym, subst, ◌∙◌, arith}
-use Rattle.std.proofs.lemmas.List.{drop_more}
+use Rattle.std.proofs.Common.{◌≡◌, length, take, ap, sym, subst, ◌∙◌, arith}
 use Rattle.std.proofs.lemmas.Result.{on_err_weaker}
 use Rattle.std.proofs.Math.Seq.{take-append_seam, take-length}
-use Rattle.nxt_types.specs.Shapes.{Array, cluster_of, tree, members}
-use Rattle.nxt_types.specs.Names.{size, sizes}
-use Rattle.nxt_model.specs.Values.{flat, flats, values}
-use Rattle.nxt_values.specs.Regions.{bytes_in, HoldsThere, value_there, values_there}
-use Rattle.nxt_types.proofs.Laws.Trees.{group_tree}
+use Rattle.nxt_types.specs.Shapes.{Array, Cluster, tree}
+use Rattle.nxt_types.specs.Names.{size}
+use Rattle.nxt_values.specs.Regions.{HoldsThere}
+use Rattle.nxt_values.specs.Ahead.{ahead}
 use Rattle.nxt_values.proofs.Laws.Elements.{element_there}
-use Rattle.nxt_values.proofs.Read.Gathered.{Left, front_then, element_added, list_added}
+use Rattle.nxt_values.proofs.Read.Gathered.{front_then, member_added, element_added, list_added}
 use Rattle.nxt_values.proofs.Laws.Needs.{on_err}
 use Rattle.nxt_values.proofs.reading.+gather.Goals as goal
 
@@ -69,57 +67,27 @@ gather-returns-in-Num-clause-err t c =
 
 pub gather-gather_members-requires : goal.gather-gather_members-requires
 gather-gather_members-requires t c =
-    let l = c.as_slice.result.now in
-    let is : tree c.args.shape.now ≡ cluster_of (map tree l) = group_tree c.args.shape.now c.in-Group.members.items l c.in-Group.is c.as_slice.ensures.value in
-    let less = ap size is in rw c.inside.ensures (
+    let is : tree c.args.shape.now ≡ Cluster (ahead c.of.result) = ap tree c.in-Group.is ∙ c.of.ensures.shapes in
+    let less = ap size is in rw c.of.ensures.first (
       omega (arith, less),
       (
         c.requires.pool,
         (
           c.requires.region,
-          (
-            omega (arith, less),
-            subst (λ s. HoldsThere c.args.entries.now c.args.heap.now.lists s c.args.at) is c.requires.holds,
-          ),
+          subst (λ s. HoldsThere c.args.entries.now c.args.heap.now.lists s c.args.at) is c.requires.holds,
         ),
       ),
     )
-
-pub gather-returns-in-Group-clause-ok : goal.gather-returns-in-Group-clause-ok
-gather-returns-in-Group-clause-ok t c =
-    let l = c.as_slice.result.now in
-    let is : tree c.args.shape.now ≡ cluster_of (map tree l) = group_tree c.args.shape.now c.in-Group.members.items l c.in-Group.is c.as_slice.ensures.value in
-    subst
-    (λ s. OnOk c.gather_members.result (c.gather_members.new.into ≡ c.args.into.now ++ flat (value_there c.args.entries.now c.args.heap.now.lists s c.args.at)))
-    (sym is)
-    (rw c.inside.ensures at c.gather_members.ensures.ok)
 
 -- ---- members
 
 pub gather_members-gather-requires : goal.gather_members-gather-requires
 gather_members-gather-requires t c =
-    let xs = c.args.shapes.now in
-    let i = c.loop-shape.shape-index in
-    let x = c.shape-item.result in
-    let here : drop i xs ≡ x ∷ drop (i + 1) xs = drop_more xs i x (omega arith) ∙ ap (λ y. y ∷ drop (i + 1) xs) (sym c.shape-item.is) in
-    let left =
-    subst
-    (λ ys.
-    Left
-    c.args.entries.now
-    c.args.heap.now.lists
-    (bytes_in c.args.heap.now.lists c.args.at.region)
-    c.args.at.base
-    c.args.at.entry
-    (sizes (members (map tree xs)))
-    (members (map tree ys))
-    c.loop-shape.entry
-    c.args.into.now
-    c.loop-shape.into
-    (c.args.into.now ++ flats (values (values_there c.args.entries.now c.args.heap.now.lists (members (map tree xs)) c.args.at))))
-    here
-    c.loop-shape.invariant
-    in rw c.member.ensures (
-      omega (arith, left.behind, left.entries),
-      (c.requires.pool, (c.requires.region, (omega (arith, left.behind, left.entries), left.holds.0))),
-    )
+    let step = c.in-Some.ensures in
+    let left = rw (step.shapes, ← step.here) at c.loop-shape.invariant in
+    (omega (arith, left.there.less), (c.requires.pool, (left.there.region, (step.entries, left.there.holds.0))))
+
+pub gather_members-loop-shape-preserved : goal.gather_members-loop-shape-preserved
+gather_members-loop-shape-preserved t c =
+    let step = c.in-Some.ensures in
+    rw step.others (member_added (rw (step.shapes, ← step.here) at c.loop-shape.invariant) c.in_ok-gather.ensures.ok)

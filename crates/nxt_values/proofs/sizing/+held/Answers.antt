@@ -1,13 +1,13 @@
 -- A list's elements and a group's members are lesser shapes, whose sizes are parts of the whole's.
-use Rattle.std.proofs.Common.{◌≡◌, ◌+◌, ◌*◌, map, ap, sym, subst, ◌∙◌, arith}
-use Rattle.nxt_types.specs.Shapes.{Array, cluster_of, tree, members}
+use Rattle.std.proofs.Common.{◌≡◌, ◌+◌, ◌*◌, ap, sym, subst, ◌∙◌, arith}
+use Rattle.nxt_types.specs.Shapes.{Array, Cluster, tree}
 use Rattle.nxt_types.specs.Names.{size}
 use Rattle.nxt_types.specs.Pool.{round4}
 use Rattle.nxt_values.specs.Regions.{HoldsThere}
+use Rattle.nxt_values.specs.Ahead.{ahead}
 use Rattle.nxt_values.specs.Sizes.{IsCountable, size_there}
-use Rattle.nxt_types.proofs.Laws.Trees.{group_tree}
 use Rattle.nxt_values.proofs.Laws.Elements.{element_there}
-use Rattle.nxt_values.proofs.Laws.Sizes.{group_countable, held_begin, held_next, element_countable, element_adds, element_added, numbers_held}
+use Rattle.nxt_values.proofs.Laws.Sizes.{group_countable, held_begin, held_next, element_countable, element_adds, element_added, member_countable, member_counted, numbers_held}
 use Rattle.nxt_values.proofs.sizing.+held.Goals as goal
 
 -- ---- lists
@@ -70,30 +70,38 @@ held_size-returns-then-is_number t c =
 
 pub held_size-held_sizes-requires : goal.held_size-held_sizes-requires
 held_size-held_sizes-requires t c =
-    let l = c.as_slice.result.now in
-    let is : tree c.args.shape.now ≡ cluster_of (map tree l) = group_tree c.args.shape.now c.in-Group.members.items l c.in-Group.is c.as_slice.ensures.value in
-    let less = ap size is in rw c.inside.ensures (
+    let is : tree c.args.shape.now ≡ Cluster (ahead c.of.result) = ap tree c.in-Group.is ∙ c.of.ensures.shapes in
+    let less = ap size is in rw c.of.ensures.first (
       omega (arith, less),
       (
         c.requires.pool,
         (
           c.requires.region,
           (
-            omega (arith, less),
-            (
-              subst (λ s. HoldsThere c.args.entries.now c.args.heap.now.lists s c.args.at) is c.requires.holds,
-              group_countable c.args.entries.now c.args.heap.now.lists (members (map tree l)) (tree c.args.shape.now) c.args.at is c.requires.countable,
-            ),
+            subst (λ s. HoldsThere c.args.entries.now c.args.heap.now.lists s c.args.at) is c.requires.holds,
+            group_countable c.args.entries.now c.args.heap.now.lists (ahead c.of.result) (tree c.args.shape.now) c.args.at is c.requires.countable,
           ),
         ),
       ),
     )
 
-pub held_size-returns-in-Group : goal.held_size-returns-in-Group
-held_size-returns-in-Group t c =
-    let l = c.as_slice.result.now in
-    let is : tree c.args.shape.now ≡ cluster_of (map tree l) = group_tree c.args.shape.now c.in-Group.members.items l c.in-Group.is c.as_slice.ensures.value in
-    subst
-    (λ s. c.held_sizes.result ≡ size_there c.args.entries.now c.args.heap.now.lists s c.args.at)
-    (sym is)
-    (rw c.inside.ensures at c.held_sizes.ensures)
+-- ---- members
+
+pub held_sizes-held_size-requires : goal.held_sizes-held_size-requires
+held_sizes-held_size-requires t c =
+    let step = c.in-Some.ensures in
+    let left = rw (step.shapes, ← step.here) at c.loop-shape.invariant in (
+      omega (arith, left.there.less),
+      (
+        c.requires.pool,
+        (
+          left.there.region,
+          (step.entries, (left.there.holds.0, member_countable left.parts c.requires.countable)),
+        ),
+      ),
+    )
+
+pub held_sizes-loop-shape-preserved : goal.held_sizes-loop-shape-preserved
+held_sizes-loop-shape-preserved t c =
+    let step = c.in-Some.ensures in
+    rw step.others (member_counted (rw (step.shapes, ← step.here) at c.loop-shape.invariant) c.held_size.ensures c.plus-sum.ensures)

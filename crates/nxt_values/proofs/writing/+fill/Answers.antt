@@ -1,25 +1,22 @@
 -- A list's elements and a group's members are lesser shapes, whose places are filled one behind another.
-use Rattle.std.proofs.Common.{OnErr, ◌≡◌, ◌+◌, ◌<◌, ◌∷◌, [], length, map, drop, refl, ap, sym, subst, ◌∙◌, arith}
-use Rattle.std.proofs.lemmas.List.{drop_more}
+use Rattle.std.proofs.Common.{◌≡◌, ◌<◌, refl, ap, sym, subst, ◌∙◌, arith}
 use Rattle.std.proofs.lemmas.Result.{IfOk-weaker, on_err_weaker}
-use Rattle.std.proofs.Math.ListN.{drop_of_length-le}
-use Rattle.nxt_types.specs.Shapes.{Number, cluster_of, tree, members, has_list}
-use Rattle.nxt_types.specs.Names.{size, sizes}
+use Rattle.nxt_types.specs.Shapes.{Number, Cluster, tree}
+use Rattle.nxt_types.specs.Names.{size}
 use Rattle.nxt_types.specs.Pool.{pool_size}
 use Rattle.nxt_heap.specs.Lists.{footprint}
-use Rattle.nxt_values.specs.Regions.{bytes_in}
+use Rattle.nxt_values.specs.Ahead.{ahead, behind}
 use Rattle.nxt_values.specs.Writes.{bytes_of_number}
-use Rattle.nxt_values.specs.Fills.{first_of, needs_for, needs_for_all, needs_for_each, FillsThere, FillAllThere, RoomThere, HasRoom}
+use Rattle.nxt_values.specs.Fills.{first_of, needs_for, needs_for_each, FillsThere, FillAllThere, RoomThere}
 use Rattle.nxt_values.specs.Elements.{FillsElements}
 use Rattle.nxt_values.specs.declared.elements.Elements.{Elements}
 use Rattle.nxt_values.specs.declared.reading.Place.{Place}
-use Rattle.nxt_types.proofs.Laws.Trees.{group_tree}
 use Rattle.nxt_values.proofs.Laws.Needs.{on_err}
 use Rattle.nxt_values.proofs.Laws.Opened.{footprint_put}
-use Rattle.nxt_values.proofs.Laws.Steps.{MembersLeft, number_filled, cluster_filled, elements_begin, elements_end, element_room, element_done, member_room, member_done, members_end, element_passed}
+use Rattle.nxt_values.proofs.Laws.Steps.{number_filled, cluster_filled, elements_begin, elements_end, element_room, element_done, member_room, member_done, members_end, element_passed}
 use Rattle.nxt_values.proofs.Fill.Lists.{opened_room, opened_filled, opened_passed, list_passed}
 use Rattle.nxt_heap.proofs.Laws.Moves.{rows_same, rows_then}
-use Rattle.nxt_values.proofs.Fill.NoLists.{none_among}
+use Rattle.nxt_values.proofs.Fill.NoLists.{none_ahead}
 use Rattle.nxt_values.proofs.writing.+fill.Goals as goal
 
 -- ---- lists
@@ -120,139 +117,55 @@ fill-returns-in-Num-clause-filled t c =
 
 -- ---- groups
 
-pub fill-fill_members-requires : goal.fill-fill_members-requires
-fill-fill_members-requires t c =
-    let l = c.as_slice.result.now in
-    let is : tree c.args.shape.now ≡ cluster_of (map tree l) = group_tree c.args.shape.now c.in-Group.members.items l c.in-Group.is c.as_slice.ensures.value in
+pub fill-fill_ahead-requires : goal.fill-fill_ahead-requires
+fill-fill_ahead-requires t c =
+    let is : tree c.args.shape.now ≡ Cluster (ahead c.of.result) = ap tree c.in-Group.is ∙ c.of.ensures.shapes in
     let less = ap size is in
-    let room = subst (λ s. RoomThere c.args.entries.now c.args.heap.now.lists s c.args.at) is c.requires.room in rw c.inside.ensures (
+    let room = subst (λ s. RoomThere c.args.entries.now c.args.heap.now.lists s c.args.at) is c.requires.room in rw c.of.ensures.first (
       omega (arith, less),
       (
         c.requires.pool,
-        (
-          c.requires.region,
-          (omega (arith, less), record { within = room.within; apart = room.apart; fits = room.fits }),
-        ),
+        (c.requires.region, record { within = room.within; apart = room.apart; fits = room.fits }),
       ),
     )
 
 pub fill-returns-in-Group-clause-filled : goal.fill-returns-in-Group-clause-filled
 fill-returns-in-Group-clause-filled t c =
-    let l = c.as_slice.result.now in
-    let is : tree c.args.shape.now ≡ cluster_of (map tree l) = group_tree c.args.shape.now c.in-Group.members.items l c.in-Group.is c.as_slice.ensures.value in
+    let is : tree c.args.shape.now ≡ Cluster (ahead c.of.result) = ap tree c.in-Group.is ∙ c.of.ensures.shapes in
     let at = c.args.at in
     IfOk-weaker
-    c.fill_members.result
-    (λ rest. FillAllThere c.args.entries.now c.args.heap.now.lists c.fill_members.new.heap.lists (members (map tree l)) (record { region = at.region; entry = at.entry + 1; base = at.base }) c.args.from.now rest.now)
-    (λ rest. FillsThere c.args.entries.now c.args.heap.now.lists c.fill_members.new.heap.lists (tree c.args.shape.now) at c.args.from.now rest.now)
+    c.fill_ahead.result
+    (λ rest. FillAllThere c.args.entries.now c.args.heap.now.lists c.fill_ahead.new.heap.lists (ahead c.of.result) (behind at 1) c.args.from.now rest.now)
+    (λ rest. FillsThere c.args.entries.now c.args.heap.now.lists c.fill_ahead.new.heap.lists (tree c.args.shape.now) at c.args.from.now rest.now)
     (λ rest e.
     subst
-    (λ w. FillsThere c.args.entries.now c.args.heap.now.lists c.fill_members.new.heap.lists w at c.args.from.now rest.now)
+    (λ w. FillsThere c.args.entries.now c.args.heap.now.lists c.fill_ahead.new.heap.lists w at c.args.from.now rest.now)
     (sym is)
-    (cluster_filled c.args.entries.now c.args.heap.now.lists c.fill_members.new.heap.lists (members (map tree l)) at.entry at.region at.base c.args.from.now rest.now e))
-    (rw c.inside.ensures at c.fill_members.ensures.filled)
-
-pub fill-returns-in-Group-clause-stays : goal.fill-returns-in-Group-clause-stays
-fill-returns-in-Group-clause-stays t c none =
-    let l = c.as_slice.result.now in
-    let is : tree c.args.shape.now ≡ cluster_of (map tree l) = group_tree c.args.shape.now c.in-Group.members.items l c.in-Group.is c.as_slice.ensures.value in
-    c.fill_members.ensures.stays (sym (ap has_list is) ∙ none)
+    (cluster_filled c.args.entries.now c.args.heap.now.lists c.fill_ahead.new.heap.lists (ahead c.of.result) at.entry at.region at.base c.args.from.now rest.now e))
+    (rw c.of.ensures.first at c.fill_ahead.ensures.filled)
 
 -- ---- members
 
-pub fill_members-fill-requires : goal.fill_members-fill-requires
-fill_members-fill-requires t c =
-    let at = c.args.at in
-    let xs = c.args.shapes.now in
-    let i = c.loop-shape.shape-index in
-    let x = c.shape-item.result in
-    let rest = drop (i + 1) xs in
-    let n = length (bytes_in c.args.heap.now.lists at.region) in
-    let here : drop i xs ≡ x ∷ rest = drop_more xs i x (omega arith) ∙ ap (λ y. y ∷ rest) (sym c.shape-item.is) in
-    let left =
-    subst
-    (λ ys. MembersLeft c.args.entries.now c.loop-shape.heap.lists at.region at.base n at.entry (sizes (members (map tree xs))) (members (map tree ys)) c.loop-shape.entry c.loop-shape.left.now (needs_for_all c.args.heap.now.lists (members (map tree xs)) c.args.from.now) (λ f more. FillAllThere c.args.entries.now c.args.heap.now.lists f (members (map tree xs)) at c.args.from.now more))
-    here
-    c.loop-shape.invariant.0
-    in
-    let room = member_room c.args.entries.now (tree x) (members (map tree rest)) c.loop-shape.entry at.base n left.room in rw c.member.ensures (
-      omega (arith, left.behind, left.entries),
-      (
-        left.pool,
-        (
-          left.there,
-          (
-            omega (arith, left.behind, left.entries),
-            subst (HasRoom c.args.entries.now (tree x) c.loop-shape.entry at.base) (sym left.long) room,
-          ),
-        ),
-      ),
-    )
+pub fill_ahead-fill-requires : goal.fill_ahead-fill-requires
+fill_ahead-fill-requires t c =
+    let step = c.in-Some.ensures in
+    let left = rw (step.shapes, ← step.here) at c.loop-shape.invariant.0 in
+    let room = member_room c.args.entries.now (tree c.in-Some.shape.now) (ahead c.next.new.self) c.in-Some.place.entry c.in-Some.place.base _ left.room in
+    (omega (arith, left.less), (left.pool, (left.there, (step.entries, room))))
 
-pub fill_members-loop-shape-preserved : goal.fill_members-loop-shape-preserved
-fill_members-loop-shape-preserved t c =
-    let at = c.args.at in
-    let xs = c.args.shapes.now in
-    let i = c.loop-shape.shape-index in
-    let x = c.shape-item.result in
-    let rest = drop (i + 1) xs in
-    let n = length (bytes_in c.args.heap.now.lists at.region) in
-    let all = sizes (members (map tree xs)) in
-    let here : drop i xs ≡ x ∷ rest = drop_more xs i x (omega arith) ∙ ap (λ y. y ∷ rest) (sym c.shape-item.is) in
-    let left =
-    subst
-    (λ ys. MembersLeft c.args.entries.now c.loop-shape.heap.lists at.region at.base n at.entry all (members (map tree ys)) c.loop-shape.entry c.loop-shape.left.now (needs_for_all c.args.heap.now.lists (members (map tree xs)) c.args.from.now) (λ f more. FillAllThere c.args.entries.now c.args.heap.now.lists f (members (map tree xs)) at c.args.from.now more))
-    here
-    c.loop-shape.invariant.0
-    in (
-      subst
-          (λ k. MembersLeft c.args.entries.now c.fill.new.heap.lists at.region at.base n at.entry all (members (map tree rest)) (c.loop-shape.entry + k) c.in_ok-left.left.now (needs_for_all c.args.heap.now.lists (members (map tree xs)) c.args.from.now) (λ f more. FillAllThere c.args.entries.now c.args.heap.now.lists f (members (map tree xs)) at c.args.from.now more))
-          (sym c.size_of-entry.ensures)
-          (member_done
-          c.args.entries.now
-          c.loop-shape.heap.lists
-          c.fill.new.heap.lists
-          at.region
-          at.base
-          n
-          at.entry
-          all
-          (tree x)
-          (members (map tree rest))
-          c.loop-shape.entry
-          c.loop-shape.left.now
-          c.in_ok-left.left.now
-          (needs_for_all c.args.heap.now.lists (members (map tree xs)) c.args.from.now)
-          (λ f more. FillAllThere c.args.entries.now c.args.heap.now.lists f (members (map tree xs)) at c.args.from.now more)
-          left
-          c.in_ok-left.ensures.pool
-          (rw c.member.ensures at c.in_ok-left.ensures.filled)),
-      λ none.
-          let two = none_among xs i x rest here none in
-          rows_then c.args.heap.now.pool c.loop-shape.heap.pool c.fill.new.heap.pool (c.loop-shape.invariant.1 none) (c.in_ok-left.ensures.stays two),
-    )
+pub fill_ahead-loop-shape-preserved : goal.fill_ahead-loop-shape-preserved
+fill_ahead-loop-shape-preserved t c = (
+  let step = c.in-Some.ensures in
+      let left = rw (step.shapes, ← step.here) at c.loop-shape.invariant.0 in
+      rw step.others (member_done left c.in_ok-left.ensures.pool c.in_ok-left.ensures.filled),
+  λ none.
+      let before = c.loop-shape.invariant.1 none in
+      let two = none_ahead c.in-Some.ensures before.0 in
+      (two.1, rows_then c.args.heap.now.pool c.loop-shape.heap.pool c.fill.new.heap.pool before.1 (c.in_ok-left.ensures.stays two.0)),
+)
 
-pub fill_members-returns-clause-filled : goal.fill_members-returns-clause-filled
-fill_members-returns-clause-filled t c =
-    let at = c.args.at in
-    let xs = c.args.shapes.now in
-    let i = c.loop-shape.shape-index in
-    let none : drop i xs ≡ [] = drop_of_length-le xs (omega arith) in
-    members_end
-    c.args.entries.now
-    c.loop-shape.heap.lists
-    at.region
-    at.base
-    (length (bytes_in c.args.heap.now.lists at.region))
-    at.entry
-    (sizes (members (map tree xs)))
-    (members (map tree (drop i xs)))
-    c.loop-shape.entry
-    c.loop-shape.left.now
-    (needs_for_all c.args.heap.now.lists (members (map tree xs)) c.args.from.now)
-    (λ f more. FillAllThere c.args.entries.now c.args.heap.now.lists f (members (map tree xs)) at c.args.from.now more)
-    (ap (λ ys. members (map tree ys)) none)
-    c.loop-shape.invariant.0
+pub fill_ahead-returns-clause-filled : goal.fill_ahead-returns-clause-filled
+fill_ahead-returns-clause-filled t c = members_end c.in_default.ensures c.loop-shape.invariant.0
 
 -- ---- what the pool does not hold
 
@@ -280,9 +193,3 @@ fill_elements-returns-in_err-left-clause-passed t c =
     c.loop-k.invariant.0
     c.loop-k-test.true
     c.in_err-left.ensures.passed)
-
-pub fill-returns-in-Group-clause-passed : goal.fill-returns-in-Group-clause-passed
-fill-returns-in-Group-clause-passed t c =
-    let l = c.as_slice.result.now in
-    let is : tree c.args.shape.now ≡ cluster_of (map tree l) = group_tree c.args.shape.now c.in-Group.members.items l c.in-Group.is c.as_slice.ensures.value in
-    subst (λ w. OnErr c.fill_members.result (pool_size < needs_for c.args.heap.now.lists w c.args.from.now)) (sym is) c.fill_members.ensures.passed

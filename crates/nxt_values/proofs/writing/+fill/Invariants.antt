@@ -1,9 +1,9 @@
 -- What is filled so far, and what is still to be filled.
-use Rattle.std.proofs.Common.{◌≡◌, ◌+◌, ◌*◌, false, drop, map, length}
-use Rattle.nxt_types.specs.Shapes.{tree, members, has_list, some_list}
+use Rattle.std.proofs.Common.{◌≡◌, ◌+◌, ◌*◌, false}
+use Rattle.nxt_types.specs.Shapes.{count, tree, has_list, some_list}
 use Rattle.nxt_heap.specs.Moves.{RowsStay}
 use Rattle.nxt_types.specs.Names.{size, sizes}
-use Rattle.nxt_values.specs.Regions.{bytes_in}
+use Rattle.nxt_values.specs.Ahead.{ahead}
 use Rattle.nxt_values.specs.Fills.{needs_for_all, needs_for_each, FillAllThere}
 use Rattle.nxt_values.specs.Elements.{FillsElements}
 use Rattle.nxt_values.proofs.Laws.Steps.{ElementsLeft, MembersLeft}
@@ -12,8 +12,8 @@ use Rattle.nxt_values.proofs.writing.+fill.Given as goal
 abbrev pub decreases-fill : goal.decreases-fill
 decreases-fill l = 2 * size (tree l.shape.now)
 
-abbrev pub decreases-fill_members : goal.decreases-fill_members
-decreases-fill_members l = 2 * sizes (members (map tree l.shapes.now)) + 1
+abbrev pub decreases-fill_ahead : goal.decreases-fill_ahead
+decreases-fill_ahead l = 2 * sizes (ahead l.members) + 1
 
 abbrev pub decreases-fill_elements : goal.decreases-fill_elements
 decreases-fill_elements l = 2 * size (tree l.element.now) + 1
@@ -31,19 +31,19 @@ invariant-fill_elements-loop-k l =
     (λ f rest. FillsElements l.entries l.fn.heap.lists f (tree l.element) l.elements l.from rest)
     × (has_list (tree l.element) ≡ false → RowsStay l.fn.heap.pool l.heap.pool)
 
-abbrev pub invariant-fill_members-loop-shape : goal.invariant-fill_members-loop-shape
-invariant-fill_members-loop-shape l =
+abbrev pub invariant-fill_ahead-loop-shape : goal.invariant-fill_ahead-loop-shape
+invariant-fill_ahead-loop-shape l =
+    let all = l.fn.members in
     MembersLeft
     l.entries
     l.heap.lists
-    l.at.region
-    l.at.base
-    (length (bytes_in l.fn.heap.lists l.at.region))
-    l.at.entry
-    (sizes (members (map tree l.shapes)))
-    (members (map tree (drop l.shape-index l.shapes)))
-    l.entry
+    (sizes (ahead all))
     l.left
-    (needs_for_all l.fn.heap.lists (members (map tree l.shapes)) l.fn.from)
-    (λ f rest. FillAllThere l.entries l.fn.heap.lists f (members (map tree l.shapes)) l.at l.fn.from rest)
-    × (some_list (members (map tree l.shapes)) ≡ false → RowsStay l.fn.heap.pool l.heap.pool)
+    (needs_for_all l.fn.heap.lists (ahead all) l.fn.from)
+    (λ f rest. FillAllThere l.entries l.fn.heap.lists f (ahead all) all.first l.fn.from rest)
+    (ahead l.members)
+    l.members.first
+    × (some_list (ahead all) ≡ false → (some_list (ahead l.members) ≡ false) × RowsStay l.fn.heap.pool l.heap.pool)
+
+abbrev pub decreases-fill_ahead-loop-shape : goal.decreases-fill_ahead-loop-shape
+decreases-fill_ahead-loop-shape l = count (ahead l.members)

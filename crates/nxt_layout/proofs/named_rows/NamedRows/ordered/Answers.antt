@@ -1,17 +1,23 @@
 -- The counts tell which rows are there twice.
-use Rattle.std.proofs.Common.{true, false, sym, ◌∙◌}
-use Rattle.std.proofs.lemmas.Result.{IfOk-weaker}
+use Rattle.std.proofs.Common.{rules, ◌<◌, ◌^◌, true, false, length, sym, ap, ap₂, ◌∙◌, arith}
+use Rattle.nxt_layout.specs.Inside.RowPasses.{ordered}
 use Rattle.nxt_layout.proofs.Dope.InOrder.{ordered_by}
+use Rattle.nxt_layout.proofs.Dope.NoneOneMany.{rows_few}
 use Rattle.nxt_layout.proofs.named_rows.NamedRows.ordered.Goals as goal
 
 pub returns-then-has_twice : goal.returns-then-has_twice
-returns-then-has_twice c =
+returns-then-has_twice c g numbers is =
     let n = c.args.self in
-    IfOk-weaker c.in_order.result _ _
-    (λ rows e. e ∙ sym (ordered_by n.times.items n.rows.items n.table_rows true c.requires.times (sym c.has_twice.ensures ∙ c.if-has_twice.true)))
-    c.in_order.ensures
+    let small : n.table_rows < 2 ^ 16 = search rules in
+    let rows = c.in_ok-rows.ensures
+    ∙ sym (ordered_by n.times.items n.rows.items n.table_rows true c.requires.times (sym c.has_twice.ensures ∙ c.if-has_twice.true))
+    ∙ ap₂ ordered is.table is.rows in
+    record { rows = rows; beyond = is.beyond; few = omega (arith, small, is.table, ap length rows, rows_few g numbers) }
 
-pub returns-else-has_twice : goal.returns-else-has_twice
-returns-else-has_twice c =
+pub returns : goal.returns
+returns c g numbers is =
     let n = c.args.self in
-    sym (ordered_by n.times.items n.rows.items n.table_rows false c.requires.times (sym c.has_twice.ensures ∙ c.if-has_twice.false))
+    let small : n.table_rows < 2 ^ 16 = search rules in
+    let rows = sym (ordered_by n.times.items n.rows.items n.table_rows false c.requires.times (sym c.has_twice.ensures ∙ c.if-has_twice.false))
+    ∙ ap₂ ordered is.table is.rows in
+    record { rows = rows; beyond = is.beyond; few = omega (arith, small, is.table, ap length rows, rows_few g numbers) }
