@@ -5,8 +5,9 @@ Two files have a table of 49,000 entries: they share no byte, or the last stands
 65,000 code words with a jump in each second statement: each lands on a statement, or the last lands inside one. Two have
 21,000 movs of a cluster: one of 24,000 members to itself, or one of 12,000 to another. Three have a list of 2,000 or 5,000
 lists of a byte each: they share no byte, the last two share theirs, or all share one. In one lists stand eight deep, and each
-of 3,000 elements names the same next list. In six clusters of lists stand in the elements of many rows, which are others in
-each cluster. In the rest many variables or many rows name the same overlapping rows. Prints the seconds and the line of each.
+of 3,000 elements names the same next list. In fifteen clusters of lists stand in the elements of many rows, which are others in
+each cluster: long rows that end together, or short ones that lie anywhere. In the rest many variables or many rows name the
+same overlapping rows. Prints the seconds and the line of each.
 """
 import os
 import struct
@@ -143,17 +144,39 @@ def pairs_file(variables, width):
     return rows_file(entries, range(1, variables + 1), rows, struct.pack("<%dH" % len(names), *names) + bytes(2 * count))
 
 
-def members_file(clusters, members, rows, read, step):
-    """Lists of lists of a cluster of so many lists. Each variable reads it in so many of these rows, from another one on."""
-    inner = [entry for j in range(members) for entry in nest(1, 2 * j)]
+def clusters_file(clusters, members, depth, rows, read, lists):
+    """Lists of lists of a cluster of so many lists, so deep. Variable i reads it in read(i) of so many rows, from row i on;
+    lists(behind, count) gives the rows' place, stride and count, and the numbers in their elements."""
+    inner = [entry for j in range(members) for entry in nest(depth, 2 * j)]
     entries = [entry for i in range(clusters) for entry in [(7, 2 * i), (7, 0), (8, members)] + inner]
-    names = [clusters + 1 + i % rows for i in range(clusters + read)]
+    names = [clusters + 1 + i % rows for i in range(clusters + read(0))]
     behind = 2 * len(names)
     count = (65000 - 2 * clusters - 10 * (clusters + rows + 1) - behind) // 2
-    outer = [(2 * i, 2, read) for i in range(clusters)]
-    outer += [(behind + step * r, 2 * members, (2 * count - step * r) // (2 * members)) for r in range(rows)]
-    numbers = names + [1 + i % (clusters + rows - 2) for i in range(count)]
-    return rows_file(entries, range(1, clusters + 1), outer, struct.pack("<%dH" % len(numbers), *numbers))
+    outer = [(2 * i, 2, read(i)) for i in range(clusters)]
+    places, numbers = lists(behind, count)
+    data = struct.pack("<%dH" % (len(names) + count), *names, *numbers)
+    return rows_file(entries, range(1, clusters + 1), outer + places, data)
+
+
+def members_file(clusters, members, rows, read, step, depth=1):
+    """Clusters in rows that end together and begin so many bytes behind one another."""
+
+    def lists(behind, count):
+        places = [(behind + step * r, 2 * members, (2 * count - step * r) // (2 * members)) for r in range(rows)]
+        return places, [1 + i % (clusters + rows - 2) for i in range(count)]
+
+    return clusters_file(clusters, members, depth, rows, lambda i: read, lists)
+
+
+def short_file(clusters, members, rows, elements):
+    """Clusters in rows of so few elements that lie anywhere and name any rows."""
+
+    def lists(behind, count):
+        room = count - members * elements - 1
+        places = [(behind + 2 * (r * 7919 % room), 2 * members, elements) for r in range(rows)]
+        return places, [1 + i * i * 31 % (clusters + rows - 1) for i in range(count)]
+
+    return clusters_file(clusters, members, 1, rows, lambda i: rows - i % 7, lists)
 
 
 FILES = (
@@ -187,6 +210,15 @@ FILES = (
     ("22 clusters of 1,000 lists", members_file(22, 1000, 900, 900, 1)),
     ("70 clusters of 320 lists", members_file(70, 320, 320, 320, 1)),
     ("1,000 clusters of 20 lists", members_file(1000, 20, 500, 500, 1)),
+    ("the same in 1,500 rows", members_file(1000, 20, 1500, 1500, 1)),
+    ("300 clusters of 80 lists", members_file(300, 80, 1500, 1500, 1)),
+    ("2,000 clusters of 10 lists", members_file(2000, 10, 800, 800, 1)),
+    ("3,000 clusters of 4 lists", members_file(3000, 4, 1500, 1500, 1)),
+    ("700 clusters of 20, two deep", members_file(700, 20, 800, 800, 1, 2)),
+    ("1,000 clusters of 5, four deep", members_file(1000, 5, 800, 800, 1, 4)),
+    ("1,000 of 20 in short rows", short_file(1000, 20, 1000, 4)),
+    ("2,000 of 10 in short rows", short_file(2000, 10, 1500, 2)),
+    ("500 of 40 in short rows", short_file(500, 40, 1200, 3)),
 )
 
 

@@ -8,7 +8,6 @@ ghost use Rattle.nxt_layout.specs.Inside.Known.{ArePlaced, IsNaming, IsNamingIn,
 
 use crate::dataspace::Dataspace;
 use crate::named_rows::{NamedRows, OrderedRows};
-use crate::places::MOST_PLACES;
 use crate::walked::WalkedRows;
 use nxt_types::NoMemory;
 use std::alloc::Global;
@@ -27,12 +26,14 @@ const MOST_JOINED: usize = 65_536;
 const MOST_KEPT: usize = 8_388_608;
 
 /// The rows that the numbers at a place in a row's elements name, by the place and the row, and how often the elements of
-/// several rows were walked; the rows that were asked for last, and those that were walked last.
+/// several rows were walked; the rows that were asked for last, whether they or those before them came again, and the rows
+/// that were walked last.
 #[derive(Drop)]
 pub struct NamesByRow {
     names: BTreeMap<(u32, u16), NamedRows>,
     walks: usize,
     last: Vec<u16>,
+    again: bool,
     walked: WalkedRows,
 }
 
@@ -45,13 +46,15 @@ impl NamesByRow {
             names: BTreeMap::new(alloc),
             walks: 0,
             last: Vec::new(alloc),
+            again: false,
             walked: WalkedRows::new(alloc),
         }
     }
 
     /// The rows that are named in so many elements of these rows. Those of several rows are walked place by place, so that
     /// one that rows share is read at most twice. Once there were as many walks as there are rows, the names of each row are
-    /// kept and joined, unless they are too many. Short rows that come again are read at the places that were walked.
+    /// kept and joined, unless they are too many. Rows that come again are read at the places that were walked, and so are
+    /// the next ones, which are taken to come again as well.
     pub fn names_in(
         &mut self,
         alloc: Global,
@@ -66,11 +69,14 @@ impl NamesByRow {
         ensures names { IfOk result (IsOrderedIn (ground_of space.now) place rows.now) }
         ensures named { OnOk result (KnowsRows (ground_of space.now) self.new) }
     {
-        if rows.len() == 1 || elements <= FEW_ELEMENTS {
+        if rows.len() == 1 {
             return names_read(alloc, space, rows, place)?.ordered(alloc);
         }
-        if self.comes_again(rows)? && are_short(rows, elements) {
+        if self.come_again(rows)? {
             return self.names_walked(alloc, space, rows, place, elements);
+        }
+        if elements <= FEW_ELEMENTS {
+            return names_read(alloc, space, rows, place)?.ordered(alloc);
         }
         match self.names_joined(alloc, space, rows, place)? {
             Some(names) => names.ordered(alloc),
@@ -78,15 +84,18 @@ impl NamesByRow {
         }
     }
 
-    // Whether the rows were asked for last. They are asked for last then.
-    fn comes_again(&mut self, rows: &[u16]) -> Result<bool, NoMemory>
+    // Whether the rows were asked for last, or those that were came again. These are asked for last then.
+    fn come_again(&mut self, rows: &[u16]) -> Result<bool, NoMemory>
         ensures { (g : Ground) → KnowsRows g self.old → OnOk result (KnowsRows g self.new) }
     {
-        let again = self.last.as_slice() == rows;
-        if !again {
-            self.last.clear();
-            self.last.extend_from_slice(rows)?;
+        if self.last.as_slice() == rows {
+            self.again = true;
+            return Ok(true);
         }
+        self.last.clear();
+        self.last.extend_from_slice(rows)?;
+        let again = self.again;
+        self.again = false;
         Ok(again)
     }
 
@@ -181,11 +190,6 @@ impl NamesByRow {
         self.walks = self.walks.saturating_add(1);
         self.walked.names_in(alloc, space, rows, place, elements)
     }
-}
-
-// Whether the rows have few elements each, or less by their places.
-fn are_short(rows: &[u16], elements: u64) -> bool {
-    elements.min(MOST_PLACES) <= rows.len().saturating_mul(usize::from(FEW_OF_ROW)) as u64
 }
 
 // The names in the elements of a row.

@@ -3,7 +3,7 @@
 ghost use Rattle.std.specs.Prelude.{◌≡◌, ℕ, List, ◌+◌, ◌<◌, ◌≤◌, ◌^◌, ◌&&◌, nat_le, nat_lt, length, min, slice_index, is_some, IfOk, IfSome};
 
 use crate::dataspace::Dataspace;
-use crate::named_rows::OrderedRows;
+use crate::named_rows::{OrderedRows, push_times};
 use nxt_types::NoMemory;
 use std::alloc::Global;
 
@@ -117,12 +117,11 @@ impl Lanes {
         ensures twice { (g : Ground) (places : List ℕ) → AreLanes g places self.now → IfOk result (λ names. is_some names ≡ is_twice_at g places place) }
     {
         let lane = place - self.first;
-        let mut rows: Vec<u16> = Vec::new(alloc);
+        let mut rows: Vec<u16> = Vec::with_capacity(alloc, 2 * usize::from(self.table_rows))?;
         let mut is_twice = false;
         for row in 0..self.table_rows {
             let times = self.rows[usize::from(row)].times(lane);
-            let end = rows.len() + times;
-            rows.resize(end, row)?;
+            push_times(&mut rows, row, times)?;
             is_twice = is_twice || times > 1;
         }
         if !is_twice {

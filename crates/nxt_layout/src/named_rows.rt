@@ -1,6 +1,6 @@
 // The rows that the numbers of an array's lists name.
 
-ghost use Rattle.std.specs.Prelude.{◌≡◌, ℕ, List, ◌<◌, ◌≤◌, ◌*◌, ◌^◌, ◌&&◌, ◌||◌, false, [], ◌∷◌, map, length, slice_index, nat_lt, All, IfOk, OnOk};
+ghost use Rattle.std.specs.Prelude.{◌≡◌, ℕ, List, ◌<◌, ◌≤◌, ◌*◌, ◌^◌, ◌&&◌, ◌||◌, false, [], ◌∷◌, ◌++◌, map, length, replicate, slice_index, nat_lt, All, IfOk, OnOk};
 ghost use Rattle.nxt_model.specs.Reading.{row_count};
 ghost use Rattle.nxt_layout.specs.Rows.{Ground, elements_of};
 ghost use Rattle.nxt_layout.specs.Inside.RowPasses.{ground_of, keep_twice, numbers_in, listed, any_below, IsCounted, Takes};
@@ -193,11 +193,20 @@ impl NamedRows {
         requires { IsCounted self.now }
         ensures { IfOk result (λ rows. rows.items ≡ listed (slice_index self.now.times.items) self.now.table_rows) }
     {
-        let mut rows: Vec<u16> = Vec::new(alloc);
+        let mut rows: Vec<u16> = Vec::with_capacity(alloc, self.rows.len())?;
         for row in 0..self.table_rows {
-            let end = rows.len() + usize::from(self.times[usize::from(row)]);
-            rows.resize(end, row)?;
+            push_times(&mut rows, row, usize::from(self.times[usize::from(row)]))?;
         }
         Ok(rows)
     }
+}
+
+/// Puts a row behind the others, so many times.
+pub fn push_times(rows: &mut Vec<u16>, row: u16, times: usize) -> Result<(), NoMemory>
+    ensures { OnOk result (rows.new.items ≡ rows.old.items ++ replicate times row) }
+{
+    for _ in 0..times {
+        rows.push(row)?;
+    }
+    Ok(())
 }

@@ -10,7 +10,7 @@ use nxt_types::NoMemory;
 use std::alloc::Global;
 
 /// The most places that are kept of rows: those of a dataspace, twice.
-pub const MOST_PLACES: u64 = 131_072;
+const MOST_PLACES: u64 = 131_072;
 
 /// The places of elements in the order of their rows, each at most twice: one that comes a third time tells nothing more.
 /// Each place of the dataspace has its count among them, and how many elements from it on, of rows of this stride, are

@@ -4,7 +4,7 @@ ghost use Rattle.std.specs.Prelude.{◌≡◌, ℕ, ◌==◌, ◌<◌, ◌≤◌
 ghost use Rattle.nxt_layout.specs.Rows.{Ground, elements_of};
 ghost use Rattle.nxt_table.specs.Inside.LeafPasses.{leaf_end};
 ghost use Rattle.nxt_layout.specs.Inside.RowPasses.{ground_of, is_array_item, array_leaves, extent_in, back_to, is_back, places_in, through_by, through_from, open_by, opened, through, first_beyond as first_of_beyond};
-ghost use Rattle.nxt_layout.specs.Inside.Known.{IsOpen, IsKnown, IsFoundIn};
+ghost use Rattle.nxt_layout.specs.Inside.Known.{HasFew, IsKnown, IsFoundIn};
 
 use crate::dataspace::Dataspace;
 use crate::known::{Found, Known, found_in, found_outside};
@@ -26,11 +26,12 @@ pub struct ArrayRows {
     pub beyond: bool,
 }
 
-/// An array whose element's entries aren't all done, with the rows whose elements are read through it.
+/// An array whose element's entries aren't all done, with the bytes of its element and the rows that its lists name.
 #[derive(Drop)]
 pub struct OpenArray {
     entry: u32,
-    read: RcSlice<u16>,
+    bytes: u32,
+    rows: RcSlice<u16>,
 }
 
 /// The bytes of an array's element by the array's entry: the greatest end of its leaves.
@@ -81,10 +82,11 @@ pub fn arrays_of(
         if is_array(leaf) {
             close(&mut stack, leaf.array);
             let bytes = extent(extents, leaf.entry);
-            let found = rows_through(alloc, space, &mut known, &stack, leaf, bytes)?;
+            let found = rows_through(alloc, space, &mut known, &stack, leaf)?;
             stack.push_front(OpenArray {
                 entry: leaf.entry,
-                read: found.read,
+                bytes,
+                rows: found.rows.clone()?,
             })?;
             arrays.push(ArrayRows {
                 entry: leaf.entry,
@@ -106,8 +108,8 @@ fn is_array(leaf: &PlacedLeaf) -> bool
 
 // Ends the arrays up to this one, which is the next around a leaf.
 fn close(stack: &mut VecDeque<OpenArray>, array: Option<u16>)
-    ensures open { (g : Ground) → All (IsOpen g) stack.old.items → All (IsOpen g) stack.new.items }
-    ensures rest { map opened stack.new.items ≡ back_to array (map opened stack.old.items) }
+    ensures few { All HasFew stack.old.items → All HasFew stack.new.items }
+    ensures rest { (g : Ground) → map (opened g) stack.new.items ≡ back_to array (map (opened g) stack.old.items) }
 {
     while !is_next(stack, array) {
         let _over = stack.pop_front();
@@ -115,7 +117,7 @@ fn close(stack: &mut VecDeque<OpenArray>, array: Option<u16>)
 }
 
 fn is_next(stack: &VecDeque<OpenArray>, array: Option<u16>) -> bool
-    ensures { result ≡ is_back array (map opened stack.now.items) }
+    ensures { (g : Ground) → result ≡ is_back array (map (opened g) stack.now.items) }
 {
     match (stack.front(), array) {
         (None, _) => true,
@@ -131,17 +133,19 @@ fn rows_through(
     known: &mut Known,
     stack: &VecDeque<OpenArray>,
     leaf: &PlacedLeaf,
-    bytes: u32,
 ) -> Result<Found, NoMemory>
     requires place { leaf.now.place < 2 ^ 16 }
-    requires open { All (IsOpen (ground_of space.now)) stack.now.items }
+    requires few { All HasFew stack.now.items }
     requires known { IsKnown (ground_of space.now) known.old }
-    ensures found { IfOk result (IsFoundIn (ground_of space.now) leaf.now.place bytes (places_in (ground_of space.now) (map opened stack.now.items))) }
+    ensures found { IfOk result (IsFoundIn (ground_of space.now) leaf.now.place (places_in (ground_of space.now) (map (opened (ground_of space.now)) stack.now.items))) }
     ensures known { OnOk result (IsKnown (ground_of space.now) known.new) }
 {
     match stack.front() {
-        None => found_outside(alloc, space, leaf.place, bytes),
-        Some(array) => found_in(alloc, space, known, &array.read, leaf.place, bytes),
+        None => found_outside(alloc, space, leaf.place),
+        Some(array) => {
+            let read = known.reads.of(alloc, space, array.bytes, &array.rows)?;
+            found_in(alloc, space, known, &read, leaf.place)
+        }
     }
 }
 

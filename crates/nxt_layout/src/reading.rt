@@ -1,76 +1,89 @@
-// The rows that are read of those that are named, found once for those that are named again.
+// The rows that are read of those that are named, found once for the same ones.
 
 ghost use Rattle.std.specs.Prelude.{◌≡◌, IfOk, IfSome, OnOk};
 ghost use Rattle.std.specs.Rc.{rc_slice_items};
+ghost use Rattle.nxt_layout.specs.Rows.{Ground, read_by};
 ghost use Rattle.nxt_layout.specs.Inside.RowPasses.{ground_of};
-ghost use Rattle.nxt_layout.specs.Inside.Known.{AreRead};
+ghost use Rattle.nxt_layout.specs.Inside.Known.{IsReading, KnowsReading};
 
 use crate::dataspace::Dataspace;
 use crate::strides::read_rows;
 use nxt_types::NoMemory;
 use std::alloc::Global;
+use std::collections::BTreeMap;
 use std::rc::RcSlice;
 
 /// Rows that are named, and those of them that are read where an element takes so many bytes.
 #[derive(Drop)]
 pub struct Reading {
     bytes: u32,
-    pub rows: RcSlice<u16>,
-    pub read: RcSlice<u16>,
+    rows: RcSlice<u16>,
+    read: RcSlice<u16>,
 }
 
-/// Which of these rows are read. Where they are the last ones, it is known.
-pub fn reading_of(
-    alloc: Global,
-    space: &Dataspace,
-    last: &mut Option<Reading>,
-    bytes: u32,
-    rows: Vec<u16>,
-) -> Result<Reading, NoMemory>
-    requires { IfSome last.old (AreRead (ground_of space.now)) }
-    ensures bytes { IfOk result (λ r. r.bytes ≡ bytes) }
-    ensures rows { IfOk result (λ r. rc_slice_items r.rows ≡ rows.items) }
-    ensures read { IfOk result (AreRead (ground_of space.now)) }
-    ensures last { OnOk result (IfSome last.new (AreRead (ground_of space.now))) }
-{
-    if let Some(last) = last {
-        if last.bytes == bytes && last.rows.as_slice() == rows.as_slice() {
-            return last.share();
+/// Which of rows that are named are read, by the bytes of an element and the rows, and which were asked for last.
+#[derive(Drop)]
+pub struct ReadRows {
+    known: BTreeMap<(u32, RcSlice<u16>), RcSlice<u16>>,
+    last: Option<Reading>,
+}
+
+impl ReadRows {
+    /// Of no rows.
+    pub fn new(alloc: Global) -> ReadRows
+        ensures { (g : Ground) → KnowsReading g result }
+    {
+        ReadRows {
+            known: BTreeMap::new(alloc),
+            last: None,
         }
     }
-    let reading = Reading::new(alloc, space, bytes, rows)?;
-    *last = Some(reading.share()?);
-    Ok(reading)
-}
 
-impl Reading {
-    fn new(
+    /// Those of these rows that are read where an element takes so many bytes.
+    pub fn of(
+        &mut self,
         alloc: Global,
         space: &Dataspace,
         bytes: u32,
-        rows: Vec<u16>,
-    ) -> Result<Reading, NoMemory>
-        ensures bytes { IfOk result (λ r. r.bytes ≡ bytes) }
-        ensures rows { IfOk result (λ r. rc_slice_items r.rows ≡ rows.items) }
-        ensures read { IfOk result (AreRead (ground_of space.now)) }
+        rows: &RcSlice<u16>,
+    ) -> Result<RcSlice<u16>, NoMemory>
+        requires { KnowsReading (ground_of space.now) self.old }
+        ensures read { IfOk result (λ r. rc_slice_items r ≡ read_by (ground_of space.now) bytes (rc_slice_items rows.now)) }
+        ensures known { OnOk result (KnowsReading (ground_of space.now) self.new) }
     {
-        let read = read_rows(alloc, space, bytes, rows.as_slice())?;
-        Ok(Reading {
+        if let Some(last) = &self.last {
+            if last.bytes == bytes && last.rows.as_slice() == rows.as_slice() {
+                return Ok(last.read.clone()?);
+            }
+        }
+        let read = self.found(alloc, space, bytes, rows)?;
+        self.last = Some(Reading {
             bytes,
-            rows: RcSlice::from_vec(rows)?,
-            read: RcSlice::from_vec(read)?,
-        })
+            rows: rows.clone()?,
+            read: read.clone()?,
+        });
+        Ok(read)
     }
 
-    fn share(&self) -> Result<Reading, NoMemory>
-        ensures bytes { IfOk result (λ r. r.bytes ≡ self.now.bytes) }
-        ensures rows { IfOk result (λ r. rc_slice_items r.rows ≡ rc_slice_items self.now.rows) }
-        ensures read { IfOk result (λ r. rc_slice_items r.read ≡ rc_slice_items self.now.read) }
+    // The same, whatever was asked for last.
+    fn found(
+        &mut self,
+        alloc: Global,
+        space: &Dataspace,
+        bytes: u32,
+        rows: &RcSlice<u16>,
+    ) -> Result<RcSlice<u16>, NoMemory>
+        requires { KnowsReading (ground_of space.now) self.old }
+        ensures read { IfOk result (λ r. rc_slice_items r ≡ read_by (ground_of space.now) bytes (rc_slice_items rows.now)) }
+        ensures known { OnOk result (KnowsReading (ground_of space.now) self.new) }
     {
-        Ok(Reading {
-            bytes: self.bytes,
-            rows: self.rows.clone()?,
-            read: self.read.clone()?,
-        })
+        let key = (bytes, rows.clone()?);
+        if let Some(read) = self.known.get(&key) {
+            return Ok(read.clone()?);
+        }
+        let read = RcSlice::from_vec(read_rows(alloc, space, bytes, rows.as_slice())?)?;
+        let shared = read.clone()?;
+        let _none = self.known.insert(key, read)?;
+        Ok(shared)
     }
 }

@@ -47,27 +47,25 @@ pub fn found_arrays(
     arrays_of(alloc, space, leaves, extents.as_slice())
 }
 
-// The rows that are named through the arrays.
-fn named_rows(alloc: Global, arrays: &[ArrayRows]) -> Result<Vec<u16>, NoMemory>
-    ensures { IfOk result (λ rows. rows.items ≡ all_rows (map through arrays.now)) }
-{
-    let mut rows: Vec<u16> = Vec::new(alloc);
-    for array in arrays {
-        rows.extend_from_slice(array.rows.as_slice())?;
-    }
-    Ok(rows)
-}
-
 /// How often each row of the table is named: not at all, once, or more.
 pub fn marks_of(alloc: Global, space: &Dataspace, arrays: &[ArrayRows]) -> Result<Vec<u8>, NoMemory>
     ensures { IfOk result (λ marks. IsMarked (ground_of space.now) (all_rows (map through arrays.now)) marks.items) }
 {
-    let rows = named_rows(alloc, arrays)?;
     let mut marks = vec![in alloc; 0u8; usize::from(space.rows())]?;
-    for row in rows.as_slice() {
-        mark(marks.as_mut_slice(), *row);
+    for array in arrays {
+        mark_all(marks.as_mut_slice(), array.rows.as_slice());
     }
     Ok(marks)
+}
+
+// Marks each of the rows once more.
+fn mark_all(marks: &mut [u8], rows: &[u16])
+    ensures count { length marks.new ≡ length marks.old }
+    ensures marks { (r t : ℕ) → r < length marks.old → slice_index marks.old r ≡ min 2 t → slice_index marks.new r ≡ min 2 (t + times r rows.now) }
+{
+    for row in rows {
+        mark(marks, *row);
+    }
 }
 
 // Marks the row once more.

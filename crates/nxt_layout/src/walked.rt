@@ -13,12 +13,12 @@ use std::alloc::Global;
 const MOST_BYTES: usize = 65_536;
 
 /// Rows, and the places of their elements, each at most twice. Each list in a cluster is read in the same rows: once as many
-/// numbers were read one by one as the dataspace has bytes, those at several places are read at once.
+/// numbers were asked for as the dataspace has bytes, those at several places are read at once.
 #[derive(Drop)]
 pub struct WalkedRows {
     rows: Vec<u16>,
     places: Places,
-    read: usize,
+    asked: usize,
     lanes: Option<Lanes>,
 }
 
@@ -34,7 +34,7 @@ impl WalkedRows {
         WalkedRows {
             rows: Vec::new(alloc),
             places: Places::none(alloc),
-            read: 0,
+            asked: 0,
             lanes: None,
         }
     }
@@ -83,27 +83,28 @@ impl WalkedRows {
             *self = WalkedRows {
                 rows: walked,
                 places,
-                read: 0,
+                asked: self.asked,
                 lanes: None,
             };
         }
         Ok(())
     }
 
-    // Reads the numbers at several places from this one on at once, where it is time.
+    // Reads the numbers at several places from this one on at once, where as many were asked for as that takes.
     fn read_beside(&mut self, alloc: Global, space: &Dataspace, place: u32) -> Result<(), NoMemory>
         requires place { place < 2 ^ 16 }
         requires places { HasPlaces (ground_of space.now) self.old }
         ensures places { OnOk result (HasPlaces (ground_of space.now) self.new) }
         ensures rows { OnOk result (self.new.rows.items ≡ self.old.rows.items) }
     {
+        self.asked = self.asked.saturating_add(self.places.kept.len());
         let size = space.bytes.len();
         let most = self.places.times.len().min(MOST_BYTES);
-        if self.has_beside(place) || self.read < size || size > most {
+        if self.has_beside(place) || self.asked < size || size > most {
             return Ok(());
         }
         let lanes = Lanes::read(alloc, space, self.places.times.as_slice(), place)?;
-        self.read = 0;
+        self.asked = 0;
         self.lanes = Some(lanes);
         Ok(())
     }
@@ -128,17 +129,15 @@ impl WalkedRows {
 
     // What the numbers at a place name, which are read one by one.
     fn names_there(
-        &mut self,
+        &self,
         alloc: Global,
         space: &Dataspace,
         place: u32,
     ) -> Result<OrderedRows, NoMemory>
         requires place { place < 2 ^ 16 }
-        requires places { HasPlaces (ground_of space.now) self.old }
-        ensures names { IfOk result (AreOrdered (ground_of space.now) (numbers_in (ground_of space.now) place self.old.places.kept.items)) }
-        ensures places { OnOk result (HasPlaces (ground_of space.now) self.new) }
+        requires places { HasPlaces (ground_of space.now) self.now }
+        ensures { IfOk result (AreOrdered (ground_of space.now) (numbers_in (ground_of space.now) place self.now.places.kept.items)) }
     {
-        self.read = self.read.saturating_add(self.places.kept.len());
         let mut names = NamedRows::new(alloc, space.rows())?;
         names.take_at(space, self.places.kept.as_slice(), place)?;
         names.ordered(alloc)

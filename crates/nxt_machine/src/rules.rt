@@ -125,7 +125,7 @@ pub(crate) fn go_on(
     clock: u64,
     h: u8,
     place: u32,
-    placed: StatementAt,
+    placed: &StatementAt,
     did: Did,
 ) -> Option<Stop>
     requires program { IsProgram program.old }
@@ -133,8 +133,8 @@ pub(crate) fn go_on(
     requires head { slice_get clumps.old.state.queue 0 ≡ Some h }
     requires turn { clumps.old.state.turn < 20 }
     requires clock { clock ≤ 2 ^ 62 }
-    requires at { slice_get program.old.code.decoded.placed.items place ≡ Some placed }
-    ensures goes { GoesOn clock h place (statement_of placed.instr program.old.code.words) did program.old.space.vars program.new.space.vars clumps.old clumps.new result }
+    requires at { slice_get program.old.code.decoded.placed.items place ≡ Some placed.now }
+    ensures goes { GoesOn clock h place (statement_of placed.now.instr program.old.code.words) did program.old.space.vars program.new.space.vars clumps.old clumps.new result }
     ensures program { IsProgram program.new }
     ensures stays { TableStays program.old.space program.new.space }
     ensures image { image_in program.new ≡ image_in program.old }

@@ -55,17 +55,17 @@ pub(crate) fn perform(
     io: &mut Io,
     clock: Clock,
     place: u32,
-    placed: StatementAt,
+    placed: &StatementAt,
     out: &mut Lines,
 ) -> Result<Did, NoMemory>
     requires program { IsProgram program.old }
     requires clock { clock.now ≤ 2 ^ 62 }
-    requires at { slice_get program.old.code.decoded.placed.items place ≡ Some placed }
-    ensures did { IfOk result (Performs program.old.code.words place placed.word (clock_of clock) (statement_of placed.instr program.old.code.words)
+    requires at { slice_get program.old.code.decoded.placed.items place ≡ Some placed.now }
+    ensures did { IfOk result (Performs program.old.code.words place placed.now.word (clock_of clock) (statement_of placed.now.instr program.old.code.words)
         (record { vars = program.old.space.vars; devices = io.old; lines = out.old.lines })
         (record { vars = program.new.space.vars; devices = io.new; lines = out.new.lines })) }
     ensures program { IsProgram program.new }
-    ensures stays { StatementStays (clock_of clock) (statement_of placed.instr program.old.code.words) io.old program.old.space program.new.space }
+    ensures stays { StatementStays (clock_of clock) (statement_of placed.now.instr program.old.code.words) io.old program.old.space program.new.space }
     ensures image { image_in program.new ≡ image_in program.old }
     ensures code { program.new.code ≡ program.old.code }
     ensures same { OnErr result (program.new ≡ program.old) }
@@ -74,10 +74,10 @@ pub(crate) fn perform(
     ensures passed { IfOk result (IsUnmoved program.old program.new) }
 
     // A statement that may stop the program leaves the room of the lines.
-    ensures room { may_stop program.old.space.vars placed.instr ≡ true → out.new ≡ out.old }
+    ensures room { may_stop program.old.space.vars placed.now.instr ≡ true → out.new ≡ out.old }
 
     // On numbers alone it takes no memory where it tells nothing.
-    ensures numbers { works_on_numbers placed.instr.op (operands_at program.old.space.vars (statement_of placed.instr program.old.code.words)) ≡ true → (effect_at (record { vars = program.old.space.vars; devices = io.old; lines = out.old.lines }) (clock_of clock) (statement_of placed.instr program.old.code.words)).lines ≡ [] → IsOk result }
+    ensures numbers { works_on_numbers placed.now.instr.op (operands_at program.old.space.vars (statement_of placed.now.instr program.old.code.words)) ≡ true → (effect_at (record { vars = program.old.space.vars; devices = io.old; lines = out.old.lines }) (clock_of clock) (statement_of placed.now.instr program.old.code.words)).lines ≡ [] → IsOk result }
 {
     match placed.instr.op {
         op if nxt_ops::runs(op) => compute(alloc, program, place, placed),
@@ -96,16 +96,16 @@ fn act(
     program: &mut Program,
     io: &mut Io,
     clock: Clock,
-    placed: StatementAt,
+    placed: &StatementAt,
     out: &mut Lines,
 ) -> Result<(), NoMemory>
     requires program { IsProgram program.old }
     requires clock { clock.now ≤ 2 ^ 62 }
-    requires at { (k : ℕ) × slice_get program.old.code.decoded.placed.items k ≡ Some placed }
-    requires computing { does_compute placed.instr.op ≡ false }
-    requires on_lists { works_on_lists placed.instr.op ≡ false }
-    requires syscall { placed.instr.op ≡ op.Syscall → ⊥ }
-    ensures done { OnOk result (IsDone (clock_of clock) (statement_of placed.instr program.old.code.words)
+    requires at { (k : ℕ) × slice_get program.old.code.decoded.placed.items k ≡ Some placed.now }
+    requires computing { does_compute placed.now.instr.op ≡ false }
+    requires on_lists { works_on_lists placed.now.instr.op ≡ false }
+    requires syscall { placed.now.instr.op ≡ op.Syscall → ⊥ }
+    ensures done { OnOk result (IsDone (clock_of clock) (statement_of placed.now.instr program.old.code.words)
         (record { vars = program.old.space.vars; devices = io.old; lines = out.old.lines })
         (record { vars = program.new.space.vars; devices = io.new; lines = out.new.lines })) }
     ensures program { IsProgram program.new }
@@ -115,8 +115,8 @@ fn act(
     ensures same { OnErr result (program.new ≡ program.old) }
     ensures devices { OnErr result (io.new ≡ io.old) }
     ensures told { OnErr result (out.new.lines ≡ out.old.lines) }
-    ensures room { may_stop program.old.space.vars placed.instr ≡ true → out.new ≡ out.old }
-    ensures numbers { works_on_numbers placed.instr.op (operands_at program.old.space.vars (statement_of placed.instr program.old.code.words)) ≡ true → (effect_at (record { vars = program.old.space.vars; devices = io.old; lines = out.old.lines }) (clock_of clock) (statement_of placed.instr program.old.code.words)).lines ≡ [] → IsOk result }
+    ensures room { may_stop program.old.space.vars placed.now.instr ≡ true → out.new ≡ out.old }
+    ensures numbers { works_on_numbers placed.now.instr.op (operands_at program.old.space.vars (statement_of placed.now.instr program.old.code.words)) ≡ true → (effect_at (record { vars = program.old.space.vars; devices = io.old; lines = out.old.lines }) (clock_of clock) (statement_of placed.now.instr program.old.code.words)).lines ≡ [] → IsOk result }
 {
     program.space.is_sound();
     let instr = &placed.instr;
@@ -152,17 +152,17 @@ fn call(
     io: &mut Io,
     clock: Clock,
     place: u32,
-    placed: StatementAt,
+    placed: &StatementAt,
     out: &mut Lines,
 ) -> Result<Did, NoMemory>
     requires program { IsProgram program.old }
-    requires call { placed.instr.op ≡ op.Syscall }
-    requires at { slice_get program.old.code.decoded.placed.items place ≡ Some placed }
-    ensures did { IfOk result (Performs program.old.code.words place placed.word (clock_of clock) (statement_of placed.instr program.old.code.words)
+    requires call { placed.now.instr.op ≡ op.Syscall }
+    requires at { slice_get program.old.code.decoded.placed.items place ≡ Some placed.now }
+    ensures did { IfOk result (Performs program.old.code.words place placed.now.word (clock_of clock) (statement_of placed.now.instr program.old.code.words)
         (record { vars = program.old.space.vars; devices = io.old; lines = out.old.lines })
         (record { vars = program.new.space.vars; devices = io.new; lines = out.new.lines })) }
     ensures program { IsProgram program.new }
-    ensures stays { StatementStays (clock_of clock) (statement_of placed.instr program.old.code.words) io.old program.old.space program.new.space }
+    ensures stays { StatementStays (clock_of clock) (statement_of placed.now.instr program.old.code.words) io.old program.old.space program.new.space }
     ensures image { image_in program.new ≡ image_in program.old }
     ensures code { program.new.code ≡ program.old.code }
     ensures same { OnErr result (program.new ≡ program.old) }
@@ -184,20 +184,20 @@ pub(crate) fn compute(
     alloc: Global,
     program: &mut Program,
     place: u32,
-    placed: StatementAt,
+    placed: &StatementAt,
 ) -> Result<Did, NoMemory>
     requires program { IsProgram program.old }
-    requires computes { does_compute placed.instr.op ≡ true }
-    requires at { slice_get program.old.code.decoded.placed.items place ≡ Some placed }
-    ensures did { IfOk result (λ did. (d : Devices) (lines : List Line) (t : Moments) → Performs program.old.code.words place placed.word t (statement_of placed.instr program.old.code.words)
+    requires computes { does_compute placed.now.instr.op ≡ true }
+    requires at { slice_get program.old.code.decoded.placed.items place ≡ Some placed.now }
+    ensures did { IfOk result (λ did. (d : Devices) (lines : List Line) (t : Moments) → Performs program.old.code.words place placed.now.word t (statement_of placed.now.instr program.old.code.words)
         (record { vars = program.old.space.vars; devices = d; lines = lines }) (record { vars = program.new.space.vars; devices = d; lines = lines }) did) }
     ensures program { IsProgram program.new }
-    ensures stays { (d : Devices) (t : Moments) → StatementStays t (statement_of placed.instr program.old.code.words) d program.old.space program.new.space }
+    ensures stays { (d : Devices) (t : Moments) → StatementStays t (statement_of placed.now.instr program.old.code.words) d program.old.space program.new.space }
     ensures image { image_in program.new ≡ image_in program.old }
     ensures code { program.new.code ≡ program.old.code }
     ensures same { OnErr result (program.new ≡ program.old) }
     ensures passed { IfOk result (IsUnmoved program.old program.new) }
-    ensures numbers { on_numbers program.old.space.vars placed.instr ≡ true → IsOk result }
+    ensures numbers { on_numbers program.old.space.vars placed.now.instr ≡ true → IsOk result }
 {
     program.space.is_sound();
     match run_op(alloc, &placed.instr, &program.toc, &mut program.space) {
@@ -216,15 +216,15 @@ pub(crate) fn arrange(
     alloc: Global,
     program: &mut Program,
     place: u32,
-    placed: StatementAt,
+    placed: &StatementAt,
 ) -> Result<Did, NoMemory>
     requires program { IsProgram program.old }
-    requires on_lists { works_on_lists placed.instr.op ≡ true }
-    requires at { slice_get program.old.code.decoded.placed.items place ≡ Some placed }
-    ensures did { IfOk result (λ did. (d : Devices) (lines : List Line) (t : Moments) → Performs program.old.code.words place placed.word t (statement_of placed.instr program.old.code.words)
+    requires on_lists { works_on_lists placed.now.instr.op ≡ true }
+    requires at { slice_get program.old.code.decoded.placed.items place ≡ Some placed.now }
+    ensures did { IfOk result (λ did. (d : Devices) (lines : List Line) (t : Moments) → Performs program.old.code.words place placed.now.word t (statement_of placed.now.instr program.old.code.words)
         (record { vars = program.old.space.vars; devices = d; lines = lines }) (record { vars = program.new.space.vars; devices = d; lines = lines }) did) }
     ensures program { IsProgram program.new }
-    ensures stays { (d : Devices) (t : Moments) → StatementStays t (statement_of placed.instr program.old.code.words) d program.old.space program.new.space }
+    ensures stays { (d : Devices) (t : Moments) → StatementStays t (statement_of placed.now.instr program.old.code.words) d program.old.space program.new.space }
     ensures image { image_in program.new ≡ image_in program.old }
     ensures code { program.new.code ≡ program.old.code }
     ensures same { OnErr result (program.new ≡ program.old) }

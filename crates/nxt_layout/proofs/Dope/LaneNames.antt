@@ -1,8 +1,7 @@
 -- What 64 places tell names the rows in order.
-use Rattle.std.proofs.Common.{◌≡◌, ℕ, zero, suc, ◌+◌, ◌-◌, ◌<◌, ◌≤◌, Bool, true, false, ◌&&◌, ◌||◌, ◌++◌, replicate, ◌==◌, nat_lt, nat_le, min, List, filter, take, length, eq-eqb, ne_eqb, lt-ltb, if◌then◌else◌, inl, inr, refl, sym, ap, ap₂, ◌∙◌, subst, arith}
+use Rattle.std.proofs.Common.{◌≡◌, ℕ, zero, suc, ◌+◌, ◌-◌, ◌<◌, ◌≤◌, Bool, true, false, ◌&&◌, ◌||◌, ◌++◌, replicate, ◌==◌, nat_lt, nat_le, min, List, filter, eq-eqb, ne_eqb, lt-ltb, if◌then◌else◌, inl, inr, refl, sym, ap, ◌∙◌, subst, arith}
 use Rattle.std.specs.List.{list_any}
 use Rattle.std.specs.Prelude.{slice_index_or}
-use Rattle.std.proofs.lemmas.List.{take_all}
 use Rattle.std.proofs.lemmas.Bool.{cases_lt, le-ltb, lt-leb, le-leb}
 use Rattle.nxt_types.specs.Bytes.{u16_at}
 use Rattle.nxt_model.specs.Reading.{row_count}
@@ -118,9 +117,3 @@ lane_told g places l place r are from within low =
     (λ p. Tells (slice_index_or l.rows.items r no_bits) (place - l.first) (named_times g places p r))
     whole
     (are.tell r (place - l.first) low (omega (arith, from, within)))
-
--- a list that gets so many more
-pub grown : (xs : List ℕ) (n v t row : ℕ) → n ≡ length xs → v ≡ length xs → take (n + t) xs ++ replicate (n + t - v) row ≡ xs ++ replicate t row
-grown xs n v t row long old =
-    let more : n + t - v ≡ t = omega (arith, long, old) in
-    ap₂ (λ (ys : List ℕ) (k : ℕ). ys ++ replicate k row) (take_all (n + t) xs (omega (arith, long))) more

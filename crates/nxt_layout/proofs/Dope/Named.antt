@@ -44,10 +44,10 @@ left_none g all initial now h =
 
 -- ---- open arrays
 
-pub close_one : (a : Option ℕ) (os : List OpenArray) → is_back a (map opened os) ≡ false → back_to a (map opened (drop 1 os)) ≡ back_to a (map opened os)
-close_one a [] e = absurd (let f : true ≡ false = e in cc)
-close_one None (o ∷ os) e = refl
-close_one (Some a) (o ∷ os) e = sym (ap (λ b. if b then opened o ∷ map opened os else back_to (Some a) (map opened os)) e)
+pub close_one : (g : Ground) (a : Option ℕ) (os : List OpenArray) → is_back a (map (opened g) os) ≡ false → back_to a (map (opened g) (drop 1 os)) ≡ back_to a (map (opened g) os)
+close_one g a [] e = absurd (let f : true ≡ false = e in cc)
+close_one g None (o ∷ os) e = refl
+close_one g (Some a) (o ∷ os) e = sym (ap (λ b. if b then opened g o ∷ map (opened g) os else back_to (Some a) (map (opened g) os)) e)
 
 pub elements_more : (g : Ground) (rows : List ℕ) (k : ℕ) → k < length rows → length (flat_map (elements_of g) (drop k rows)) ≡ (row g (slice_index rows k)).count + length (flat_map (elements_of g) (drop (k + 1) rows))
 elements_more g rows k h =

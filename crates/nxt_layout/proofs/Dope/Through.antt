@@ -8,12 +8,11 @@ use Rattle.std.proofs.lemmas.List.Sums.{length-filter, count_by-le-length}
 use Rattle.nxt_layout.specs.declared.known.Found.{Found}
 use Rattle.nxt_table.specs.declared.leaves.PlacedLeaf.{PlacedLeaf}
 use Rattle.nxt_layout.specs.declared.named_rows.OrderedRows.{OrderedRows}
-use Rattle.nxt_layout.specs.declared.reach.OpenArray.{OpenArray}
 use Rattle.nxt_layout.specs.declared.spans.Span.{Span}
 use Rattle.nxt_table.specs.Inside.Owners.{least_of}
 use Rattle.nxt_layout.specs.Rows.{Ground, is_placed, is_strided_by, read_by}
 use Rattle.nxt_layout.specs.Inside.RowPasses.{Through, Opened, is_array_item, array_leaves, back_to, open_by, through_from, rows_of, numbers_in, least, row_span, spans_from, places_in, through_by}
-use Rattle.nxt_layout.specs.Inside.Known.{ArePlaced, AreOrdered, IsOpen, IsToldBy, IsFoundIn, IsSame}
+use Rattle.nxt_layout.specs.Inside.Known.{ArePlaced, AreOrdered, IsToldBy, IsFoundIn, IsSame}
 use Rattle.nxt_layout.proofs.Dope.Searches.{spans_next}
 use Rattle.nxt_facts.proofs.Each.{each_from, each_filter}
 use Rattle.nxt_layout.proofs.Dope.Strides.{least_of_assoc, least-append}
@@ -35,23 +34,24 @@ read_placed g bytes rows =
     rows
     (each_from (λ r. test r ≡ true → is_placed g r ≡ true) (λ r h. (and_parts (is_placed g r) (is_strided_by g bytes rows r) h).0) rows))
 
+pub read_few : (g : Ground) (bytes : ℕ) (rows : List ℕ) → length (read_by g bytes rows) ≤ length rows
+read_few g bytes rows = filter_short (λ r. is_placed g r && is_strided_by g bytes rows r) rows
+
 -- ---- what is found
 
 -- what names tell
-pub told_ordered : (g : Ground) (place bytes : ℕ) (bases : List ℕ) (names : OrderedRows) (lists : ℕ) (f : Found) → AreOrdered g (numbers_in g place bases) names → lists ≡ length bases → lists ≤ 2 ^ 33 → IsToldBy g bytes names lists f → IsFoundIn g place bytes bases f
-told_ordered g place bytes bases names lists f is count bound told =
-    let kept = names.rows.items in
+pub told_ordered : (g : Ground) (place : ℕ) (bases : List ℕ) (names : OrderedRows) (lists : ℕ) (f : Found) → AreOrdered g (numbers_in g place bases) names → lists ≡ length bases → lists ≤ 2 ^ 33 → IsToldBy names lists f → IsFoundIn g place bases f
+told_ordered g place bases names lists f is count bound told =
     record {
       rows = told.rows ∙ is.rows;
-      read = told.read ∙ ap (read_by g bytes) is.rows;
       lists = told.lists ∙ count;
       beyond = told.beyond ∙ is.beyond;
       bound = subst (λ n. n ≤ 2 ^ 33) (sym told.lists) bound;
-      few = omega (arith, is.few, ap length told.read, filter_short (λ r. is_placed g r && is_strided_by g bytes kept r) kept);
+      few = omega (arith, is.few, ap length told.rows);
     }
 
 -- the array of a leaf, and its elements
-pub found_through : (g : Ground) (ext : ℕ → ℕ) (l : PlacedLeaf) (bytes : ℕ) (bases : List ℕ) (f : Found) → IsFoundIn g l.place bytes bases f → bytes ≡ ext l.entry → record { entry = l.entry; bytes = bytes; rows = rc_slice_items f.rows; lists = f.lists; beyond = f.beyond } ≡ through_by g ext l bases
+pub found_through : (g : Ground) (ext : ℕ → ℕ) (l : PlacedLeaf) (bytes : ℕ) (bases : List ℕ) (f : Found) → IsFoundIn g l.place bases f → bytes ≡ ext l.entry → record { entry = l.entry; bytes = bytes; rows = rc_slice_items f.rows; lists = f.lists; beyond = f.beyond } ≡ through_by g ext l bases
 found_through g ext l bytes bases f found b =
     let numbers = numbers_in g l.place bases in
     ap (λ k. record { entry = l.entry; bytes = k; rows = rc_slice_items f.rows; lists = f.lists; beyond = f.beyond }) b
@@ -59,29 +59,15 @@ found_through g ext l bytes bases f found b =
     ∙ ap (λ k. record { entry = l.entry; bytes = ext l.entry; rows = rows_of g numbers; lists = k; beyond = f.beyond }) found.lists
     ∙ ap (λ k. record { entry = l.entry; bytes = ext l.entry; rows = rows_of g numbers; lists = length bases; beyond = k }) found.beyond
 
-pub found_opened : (g : Ground) (l : PlacedLeaf) (bytes : ℕ) (bases : List ℕ) (f : Found) → IsFoundIn g l.place bytes bases f → record { entry = l.entry; read = rc_slice_items f.read } ≡ open_by g (record { entry = l.entry; bytes = bytes; rows = rc_slice_items f.rows; lists = f.lists; beyond = f.beyond })
-found_opened g l bytes bases f found =
-    ap (λ rows. record { entry = l.entry; read = rows }) (found.read ∙ ap (read_by g bytes) (sym found.rows))
-
-pub found_open : (g : Ground) (place bytes : ℕ) (bases : List ℕ) (f : Found) (o : OpenArray) → IsFoundIn g place bytes bases f → o.read ≡ f.read → IsOpen g o
-found_open g place bytes bases f o found e =
-    let rows = rows_of g (numbers_in g place bases) in
-    let read : rc_slice_items o.read ≡ read_by g bytes rows = ap rc_slice_items e ∙ found.read in
-    record {
-      few = omega (arith, found.few, ap (λ r. length (rc_slice_items r)) e);
-      placed = subst (ArePlaced g) (sym read) (read_placed g bytes rows);
-    }
-
 -- what is shared
-pub same_found : (g : Ground) (place bytes : ℕ) (bases : List ℕ) (a b : Found) → IsSame a b → IsFoundIn g place bytes bases a → IsFoundIn g place bytes bases b
-same_found g place bytes bases a b s f =
+pub same_found : (g : Ground) (place : ℕ) (bases : List ℕ) (a b : Found) → IsSame a b → IsFoundIn g place bases a → IsFoundIn g place bases b
+same_found g place bases a b s f =
     record {
       rows = s.rows ∙ f.rows;
-      read = s.read ∙ f.read;
       lists = s.lists ∙ f.lists;
       beyond = s.beyond ∙ f.beyond;
       bound = subst (λ n. n ≤ 2 ^ 33) (sym s.lists) f.bound;
-      few = omega (arith, f.few, ap length s.read);
+      few = omega (arith, f.few, ap length s.rows);
     }
 
 -- ---- leaf by leaf

@@ -16,6 +16,7 @@ use Rattle.nxt_layout.specs.declared.named_rows.NamedRows.{NamedRows}
 use Rattle.nxt_layout.specs.declared.named_rows.OrderedRows.{OrderedRows}
 use Rattle.nxt_layout.specs.declared.places.Places.{Places}
 use Rattle.nxt_layout.specs.declared.reach.OpenArray.{OpenArray}
+use Rattle.nxt_layout.specs.declared.reading.ReadRows.{ReadRows}
 use Rattle.nxt_layout.specs.declared.reading.Reading.{Reading}
 use Rattle.nxt_layout.specs.declared.walked.WalkedRows.{WalkedRows}
 use Rattle.nxt_model.specs.Reading.{row_count}
@@ -27,10 +28,9 @@ use Rattle.nxt_layout.specs.Inside.RowPasses.{times, keep_twice, kept_of, rows_o
 abbrev pub ArePlaced : Ground → List ℕ → Type 0
 ArePlaced g rows = All (λ r. is_placed g r ≡ true) rows
 
--- not many rows are read, and those lie in the dataspace
-pub record IsOpen (g : Ground) (o : OpenArray) : Type 0 where
-  pub few : length (rc_slice_items o.read) ≤ 2 ^ 17
-  pub placed : ArePlaced g (rc_slice_items o.read)
+-- not many rows are named
+abbrev pub HasFew : OpenArray → Type 0
+HasFew o = length (rc_slice_items o.rows) ≤ 2 ^ 17
 
 -- the counts tell how often each place is among them, and steps lead over those that are twice
 pub record IsWalked (p : Places) : Type 0 where
@@ -45,44 +45,52 @@ pub record HasPlaces (g : Ground) (w : WalkedRows) : Type 0 where
   pub walked : IsWalked w.places
   pub lanes : IfSome w.lanes (AreLanes g w.places.kept.items)
 
--- those of its rows are read where an element takes its bytes
-abbrev pub AreRead : Ground → Reading → Type 0
-AreRead g r = rc_slice_items r.read ≡ read_by g r.bytes (rc_slice_items r.rows)
-
--- these names of so many lists tell it, where an element takes so many bytes
-pub record IsToldBy (g : Ground) (bytes : ℕ) (n : OrderedRows) (count : ℕ) (f : Found) : Type 0 where
+-- these names of so many lists tell it
+pub record IsToldBy (n : OrderedRows) (count : ℕ) (f : Found) : Type 0 where
   pub rows : rc_slice_items f.rows ≡ n.rows.items
-  pub read : rc_slice_items f.read ≡ read_by g bytes n.rows.items
   pub lists : f.lists ≡ count
   pub beyond : f.beyond ≡ n.beyond
 
 -- the numbers at a place in the elements that stand at these places tell it
-pub record IsFoundIn (g : Ground) (place bytes : ℕ) (bases : List ℕ) (f : Found) : Type 0 where
+pub record IsFoundIn (g : Ground) (place : ℕ) (bases : List ℕ) (f : Found) : Type 0 where
   pub rows : rc_slice_items f.rows ≡ rows_of g (numbers_in g place bases)
-  pub read : rc_slice_items f.read ≡ read_by g bytes (rows_of g (numbers_in g place bases))
   pub lists : f.lists ≡ length bases
   pub beyond : f.beyond ≡ list_any (is_beyond g) (numbers_in g place bases)
   pub bound : f.lists ≤ 2 ^ 33
-  pub few : length (rc_slice_items f.read) ≤ 2 ^ 17
+  pub few : length (rc_slice_items f.rows) ≤ 2 ^ 17
 
 pub record IsSame (a b : Found) : Type 0 where
   pub rows : rc_slice_items b.rows ≡ rc_slice_items a.rows
-  pub read : rc_slice_items b.read ≡ rc_slice_items a.read
   pub lists : b.lists ≡ a.lists
   pub beyond : b.beyond ≡ a.beyond
 
--- a place, the bytes of an element, and rows
+-- a place or the bytes of an element, and rows
 abbrev pub Key : Type 0
-Key = ℕ × ℕ × RcSlice ℕ Global
+Key = ℕ × RcSlice ℕ Global
 
 abbrev pub key_cmp : Key → Key → Ordering
-key_cmp x y =
-    ordering_then (ordering_then (nat_cmp x.0 y.0) (nat_cmp x.1 y.1)) (slice_cmp nat_cmp (rc_slice_items x.2) (rc_slice_items y.2))
+key_cmp x y = ordering_then (nat_cmp x.0 y.0) (slice_cmp nat_cmp (rc_slice_items x.1) (rc_slice_items y.1))
 
 -- what is kept is what the elements of the rows tell
 abbrev pub AreFound : Ground → BTreeMap Key Found Global → Type 0
 AreFound g found =
-    (k : Key) (f : Found) → get key_cmp found k ≡ Some f → IsFoundIn g k.0 k.1 (flat_map (elements_of g) (rc_slice_items k.2)) f
+    (k : Key) (f : Found) → get key_cmp found k ≡ Some f → IsFoundIn g k.0 (flat_map (elements_of g) (rc_slice_items k.1)) f
+
+-- ---- what is read
+
+-- those of its rows are read where an element takes its bytes
+abbrev pub IsReading : Ground → Reading → Type 0
+IsReading g r = rc_slice_items r.read ≡ read_by g r.bytes (rc_slice_items r.rows)
+
+-- what is kept are those of the rows that are read where an element takes the bytes
+abbrev pub AreRead : Ground → BTreeMap Key (RcSlice ℕ Global) Global → Type 0
+AreRead g known =
+    (k : Key) (read : RcSlice ℕ Global) → get key_cmp known k ≡ Some read → rc_slice_items read ≡ read_by g k.0 (rc_slice_items k.1)
+
+-- all that is kept of reading is right
+pub record KnowsReading (g : Ground) (r : ReadRows) : Type 0 where
+  pub known : AreRead g r.known
+  pub last : IfSome r.last (IsReading g)
 
 -- ---- single rows
 
@@ -127,4 +135,4 @@ pub record KnowsRows (g : Ground) (n : NamesByRow) : Type 0 where
 pub record IsKnown (g : Ground) (known : Known) : Type 0 where
   pub found : AreFound g known.found
   pub named : KnowsRows g known.names
-  pub last : IfSome known.last (AreRead g)
+  pub reads : KnowsReading g known.reads

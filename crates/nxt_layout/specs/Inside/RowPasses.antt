@@ -253,8 +253,8 @@ spans_of g full = table_span g ∷ spans_from g full 1 (row_count g.memory - 1)
 abbrev pub ground_of : Dataspace → Ground
 ground_of d = bare_ground d.bytes.items d.table d.static_size
 
-abbrev pub opened : OpenArray → Opened
-opened o = record { entry = o.entry; read = rc_slice_items o.read }
+abbrev pub opened : Ground → OpenArray → Opened
+opened g o = record { entry = o.entry; read = read_by g o.bytes (rc_slice_items o.rows) }
 
 abbrev pub through : ArrayRows → Through
 through a = record { entry = a.entry; bytes = a.bytes; rows = rc_slice_items a.rows; lists = a.lists; beyond = a.beyond }

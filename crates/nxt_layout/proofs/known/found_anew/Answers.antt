@@ -12,5 +12,5 @@ returns-clause-found c =
     let all = flat_map (elements_of g) c.args.rows.now in
     let names = c.in_ok-names.names in
     IfOk-weaker c.found_of.result _ _
-    (λ f told. told_ordered g c.args.place c.args.bytes all names c.elements-lists.result f c.in_ok-names.ensures.names c.elements-lists.ensures.count c.elements-lists.ensures.bound told)
-    c.found_of.ensures.told
+    (λ f told. told_ordered g c.args.place all names c.elements-lists.result f c.in_ok-names.ensures.names c.elements-lists.ensures.count c.elements-lists.ensures.bound told)
+    c.found_of.ensures

@@ -12,25 +12,25 @@ use Rattle.nxt_layout.proofs.known.found_in.Goals as goal
 pub returns-in-Some-clause-found : goal.returns-in-Some-clause-found
 returns-in-Some-clause-found c =
     let g = ground_of c.args.space.now in
-    let key : Key = (c.args.place, c.args.bytes, c.in_ok-clone.field-0) in
+    let key : Key = (c.args.place, c.in_ok-clone.field-0) in
     let found = c.in-Some.found.now in
-    let rows : rc_slice_items key.2 ≡ rc_slice_items c.args.rows.now = c.in_ok-clone.ensures.cases in
-    let right : IsFoundIn g key.0 key.1 (flat_map (elements_of g) (rc_slice_items key.2)) found =
+    let rows : rc_slice_items key.1 ≡ rc_slice_items c.args.rows.now = c.in_ok-clone.ensures.cases in
+    let right : IsFoundIn g key.0 (flat_map (elements_of g) (rc_slice_items key.1)) found =
     c.requires.known.found key found (sym c.in-Some.ensures.value) in
     IfOk-weaker c.share.result _ _
-    (λ f same. same_found g c.args.place c.args.bytes _ found f same (subst (λ rs. IsFoundIn g c.args.place c.args.bytes (flat_map (elements_of g) rs) found) rows right))
+    (λ f same. same_found g c.args.place _ found f same (subst (λ rs. IsFoundIn g c.args.place (flat_map (elements_of g) rs) found) rows right))
     c.share.ensures
 
 pub returns-clause-known : goal.returns-clause-known
 returns-clause-known c =
     let g = ground_of c.args.space.now in
-    let key : Key = (c.args.place, c.args.bytes, c.in_ok-clone.field-0) in
+    let key : Key = (c.args.place, c.in_ok-clone.field-0) in
     let found = c.in_ok-found.found in
-    let rows : c.as_slice.result.now ≡ rc_slice_items key.2 = c.as_slice.ensures.value ∙ sym c.in_ok-clone.ensures.cases in
-    let right : IsFoundIn g key.0 key.1 (flat_map (elements_of g) (rc_slice_items key.2)) found =
-    subst (λ rs. IsFoundIn g c.args.place c.args.bytes (flat_map (elements_of g) rs) found) rows c.in_ok-found.ensures.found in
+    let rows : c.as_slice.result.now ≡ rc_slice_items key.1 = c.as_slice.ensures.value ∙ sym c.in_ok-clone.ensures.cases in
+    let right : IsFoundIn g key.0 (flat_map (elements_of g) (rc_slice_items key.1)) found =
+    subst (λ rs. IsFoundIn g c.args.place (flat_map (elements_of g) rs) found) rows c.in_ok-found.ensures.found in
     record {
       found = found_more g c.found_anew.new.known.found c.insert.new.self key found c.in_ok-found.ensures.known.found right c.in_ok-_none.ensures.updates.0;
       named = c.in_ok-found.ensures.known.named;
-      last = c.in_ok-found.ensures.known.last;
+      reads = c.in_ok-found.ensures.known.reads;
     }

@@ -26,5 +26,5 @@ returns c =
     let one : 1 ≤ 2 ^ 33 = omega arith in
     let naming = naming_from g (u16_at g.memory.bytes (0 + place) ∷ []) names c.take.new.self none c.in_ok-names.ensures.beyond table takes in
     IfOk-weaker c.found_of.result _ _
-    (λ f told. told_ordered g place c.args.bytes (0 ∷ []) _ 1 f (c.in_ok-ordered.ensures g (u16_at g.memory.bytes (0 + place) ∷ []) naming) refl one told)
-    c.found_of.ensures.told
+    (λ f told. told_ordered g place (0 ∷ []) _ 1 f (c.in_ok-ordered.ensures g (u16_at g.memory.bytes (0 + place) ∷ []) naming) refl one told)
+    c.found_of.ensures

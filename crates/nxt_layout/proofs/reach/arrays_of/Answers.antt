@@ -1,28 +1,30 @@
 -- One more leaf, which may be an array.
-use Rattle.std.proofs.Common.{rules, ◌≡◌, ◌+◌, ◌≤◌, ◌^◌, true, false, ◌++◌, [], ◌∷◌, All, None, refl, ap, ap₂, sym, ◌∙◌, subst, map, drop, get_or}
+use Rattle.std.proofs.Common.{rules, ◌≡◌, ◌+◌, ◌≤◌, ◌^◌, true, false, ◌++◌, [], ◌∷◌, All, None, ap, ap₂, sym, ◌∙◌, subst, map, drop, get_or, length, arith}
 use Rattle.std.specs.Prelude.{slice_index}
+use Rattle.std.specs.Rc.{rc_slice_items}
 use Rattle.std.proofs.lemmas.List.{map-append, drop_more}
 use Rattle.std.proofs.lemmas.List.Elements.{All-cons, All-push}
 use Rattle.nxt_table.specs.declared.item.Item.TheVariants.{Void}
 use Rattle.nxt_table.specs.declared.leaves.PlacedLeaf.{PlacedLeaf}
 use Rattle.nxt_layout.specs.declared.reach.ArrayRows.{ArrayRows}
 use Rattle.nxt_layout.specs.declared.reach.OpenArray.{OpenArray}
+use Rattle.nxt_layout.specs.Rows.{read_by}
 use Rattle.nxt_layout.specs.Inside.RowPasses.{ground_of, through, opened, back_to, is_array_item, array_leaves, through_from, places_in}
-use Rattle.nxt_layout.specs.Inside.Known.{IsOpen, IsFoundIn, IsKnown}
-use Rattle.nxt_layout.proofs.Dope.Through.{array_more, array_less, found_through, found_opened, found_open}
-use Rattle.nxt_layout.proofs.reach.arrays_of.Goals.{then-is_array+in_ok-found+in_ok-push_front+in_ok-push, else-is_array}
+use Rattle.nxt_layout.specs.Inside.Known.{HasFew, IsFoundIn, IsKnown}
+use Rattle.nxt_layout.proofs.Dope.Through.{array_more, array_less, found_through}
+use Rattle.nxt_layout.proofs.reach.arrays_of.Goals.{then-is_array+in_ok-found+in_ok-clone+in_ok-push_front+in_ok-push, else-is_array}
 use Rattle.nxt_layout.proofs.reach.arrays_of.Goals as goal
 
-abbrev HasFew : ArrayRows → Type 0
-HasFew a = a.lists ≤ 2 ^ 33
+abbrev HasFewLists : ArrayRows → Type 0
+HasFewLists a = a.lists ≤ 2 ^ 33
 
-pub rows_through-requires-clause-open : goal.rows_through-requires-clause-open
-rows_through-requires-clause-open c = c.close.ensures.open (ground_of c.args.space.now) c.loop-leaf.invariant.open_still
+pub rows_through-requires-clause-few : goal.rows_through-requires-clause-few
+rows_through-requires-clause-few c = c.close.ensures.few c.loop-leaf.invariant.few
 
 pub loop-leaf-init : goal.loop-leaf-init
 loop-leaf-init c = record {
   found = search rules;
-  open_still = search rules;
+  few = search rules;
   known = c.new-known.ensures (ground_of c.args.space.now);
   lists = search rules;
   count = search rules;
@@ -39,36 +41,37 @@ loop-leaf-preserved c =
     let rest = drop (k + 1) leaves in
     let next : drop k leaves ≡ l ∷ rest = drop_more leaves k d c.loop-leaf-test.true in
     let done = map through c.loop-leaf.arrays.items in
-    let os = map opened c.loop-leaf.stack.items in
+    let os = map (opened g) c.loop-leaf.stack.items in
     let found = ap (λ ls. done ++ through_from g ext os (array_leaves ls)) (sym next) ∙ c.loop-leaf.invariant.found in
     elim c.if-is_array.branch [
-      | then-is_array+in_ok-found+in_ok-push_front+in_ok-push w ↦ (let it : is_array_item l.item ≡ true = search rules in
+      | then-is_array+in_ok-found+in_ok-clone+in_ok-push_front+in_ok-push w ↦ (let it : is_array_item l.item ≡ true = search rules in
           let f = w.in_ok-found.found in
           let bytes = w.extent-bytes.result in
           let bases = places_in g (back_to l.array os) in
-          let f_is : IsFoundIn g l.place bytes bases f =
-          subst (λ ys. IsFoundIn g l.place bytes (places_in g ys) f) w.close.ensures.rest w.in_ok-found.ensures.found
-          in
+          let around = w.close.ensures.rest g in
+          let f_is : IsFoundIn g l.place bases f = subst (λ ys. IsFoundIn g l.place (places_in g ys) f) around w.in_ok-found.ensures.found in
           let array : ArrayRows = record { entry = l.entry; bytes = bytes; rows = f.rows; lists = f.lists; beyond = f.beyond } in
-          let o : OpenArray = record { entry = l.entry; read = f.read } in
+          let rows = w.in_ok-clone.field-0 in
+          let same : rc_slice_items rows ≡ rc_slice_items f.rows = w.in_ok-clone.ensures.cases in
+          let o : OpenArray = record { entry = l.entry; bytes = bytes; rows = rows } in
           let arrays : c.if-is_array.arrays.items ≡ c.loop-leaf.arrays.items ++ array ∷ [] = ap (λ v. v.items) w.arrays-is ∙ w.in_ok-push.ensures.items in
           let stack : c.if-is_array.stack.items ≡ o ∷ w.close.new.stack.items = ap (λ v. v.items) w.stack-is ∙ w.in_ok-push_front.ensures.items in
           record {
             found =
-                ap₂ (λ xs ys. map through xs ++ through_from g ext (map opened ys) (array_leaves rest)) arrays stack
-                ∙ ap (λ ts. ts ++ through_from g ext (opened o ∷ map opened w.close.new.stack.items) (array_leaves rest)) (map-append through c.loop-leaf.arrays.items (array ∷ []))
-                ∙ ap (λ ys. (done ++ through array ∷ []) ++ through_from g ext (opened o ∷ ys) (array_leaves rest)) w.close.ensures.rest
-                ∙ array_more g ext done os l rest (through array) (opened o) it (found_through g ext l bytes bases f f_is w.extent-bytes.ensures) (found_opened g l bytes bases f f_is)
+                ap₂ (λ xs ys. map through xs ++ through_from g ext (map (opened g) ys) (array_leaves rest)) arrays stack
+                ∙ ap (λ ts. ts ++ through_from g ext (opened g o ∷ map (opened g) w.close.new.stack.items) (array_leaves rest)) (map-append through c.loop-leaf.arrays.items (array ∷ []))
+                ∙ ap (λ ys. (done ++ through array ∷ []) ++ through_from g ext (opened g o ∷ ys) (array_leaves rest)) around
+                ∙ array_more g ext done os l rest (through array) (opened g o) it (found_through g ext l bytes bases f f_is w.extent-bytes.ensures) (ap (λ rs. record { entry = l.entry; read = read_by g bytes rs }) same)
                 ∙ found;
-            open_still = subst (All (IsOpen g)) (sym stack) (All-cons (IsOpen g) o w.close.new.stack.items (found_open g l.place bytes bases f o f_is refl) (w.close.ensures.open g c.loop-leaf.invariant.open_still));
-            lists = subst (All HasFew) (sym arrays) (All-push HasFew c.loop-leaf.arrays.items array c.loop-leaf.invariant.lists f_is.bound);
+            few = subst (All HasFew) (sym stack) (All-cons HasFew o w.close.new.stack.items (omega (arith, f_is.few, ap length same)) (w.close.ensures.few c.loop-leaf.invariant.few));
+            lists = subst (All HasFewLists) (sym arrays) (All-push HasFewLists c.loop-leaf.arrays.items array c.loop-leaf.invariant.lists f_is.bound);
             known = subst (IsKnown g) (sym w.known-is) w.in_ok-found.ensures.known;
             count = search rules;
           })
       | else-is_array w ↦ (let other : is_array_item l.item ≡ false = search rules in
           record {
-            found = ap₂ (λ xs ys. map through xs ++ through_from g ext (map opened ys) (array_leaves rest)) (ap (λ v. v.items) w.arrays-is) (ap (λ v. v.items) w.stack-is) ∙ array_less g ext done os l rest other ∙ found;
-            open_still = search rules;
+            found = ap₂ (λ xs ys. map through xs ++ through_from g ext (map (opened g) ys) (array_leaves rest)) (ap (λ v. v.items) w.arrays-is) (ap (λ v. v.items) w.stack-is) ∙ array_less g ext done os l rest other ∙ found;
+            few = search rules;
             known = subst (IsKnown g) (sym w.known-is) c.loop-leaf.invariant.known;
             lists = search rules;
             count = search rules;

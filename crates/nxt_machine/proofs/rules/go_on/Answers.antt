@@ -10,7 +10,7 @@ use Rattle.nxt_machine.proofs.rules.go_on.Goals as goal
 pub returns-in-Next-clause-clumps : goal.returns-in-Next-clause-clumps
 returns-in-Next-clause-clumps c =
     let cs = c.args.clumps.now in
-    let st = statement_of c.args.placed.instr c.args.program.now.code.words in
+    let st = statement_of c.args.placed.now.instr c.args.program.now.code.words in
     let ruled = c.rule-why.ensures.ruled in
     let went = ap (λ (x : Scheduled). length x.state.mutexes) c.advance.ensures ∙ (sizes-moved (head cs.state) c.in-Next.next 1 cs.state).mutexes in
     let by_rule = ruled_sizes c.args.clock c.args.h st c.args.program.now.space.vars _ c.advance.new.self c.rule-why.new.clumps c.rule-why.result ruled in

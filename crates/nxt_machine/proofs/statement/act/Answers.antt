@@ -36,25 +36,25 @@ both_ok (Err e) a b f = tt
 pub set_output-requires-clause-named : goal.set_output-requires-clause-named
 set_output-requires-clause-named c =
     let s = c.args.program.now.space.vars in
-    let i = c.args.placed.instr in
-    named_some s i.a (ports_fit s i c.args.program.now.code.words c.in-Setout.is (fit_there c.args.program.now c.requires.program c.requires.at.0 c.args.placed c.requires.at.1)).named
+    let i = c.args.placed.now.instr in
+    named_some s i.a (ports_fit s i c.args.program.now.code.words c.in-Setout.is (fit_there c.args.program.now c.requires.program c.requires.at.0 c.args.placed.now c.requires.at.1)).named
 
 pub set_output-requires-clause-plain : goal.set_output-requires-clause-plain
 set_output-requires-clause-plain c =
-    (ports_fit c.args.program.now.space.vars c.args.placed.instr c.args.program.now.code.words c.in-Setout.is (fit_there c.args.program.now c.requires.program c.requires.at.0 c.args.placed c.requires.at.1)).has
+    (ports_fit c.args.program.now.space.vars c.args.placed.now.instr c.args.program.now.code.words c.in-Setout.is (fit_there c.args.program.now c.requires.program c.requires.at.0 c.args.placed.now c.requires.at.1)).has
 
 pub returns-in-Setout-clause-done : goal.returns-in-Setout-clause-done
 returns-in-Setout-clause-done c =
     let p = c.args.program.now in
     let s = p.space.vars in
-    let i = c.args.placed.instr in
+    let i = c.args.placed.now.instr in
     let words = p.code.words in
     let t = clock_of c.args.clock in
     let st = statement_of i words in
     let old : Told = record { vars = s; devices = c.args.io.now; lines = c.args.out.now.lines } in
     let change : List ℕ → Change = λ ws. set_motors_by s (ports_at s i.a) (drop 1 (statement_of i ws).args) c.args.io.now in
     let same = c.words-words.ensures in
-    let done = devices_done t st old (change words) c.is_sound.ensures (setout_effect s i words c.args.io.now t c.in-Setout.is (ports_fit s i words c.in-Setout.is (fit_there c.args.program.now c.requires.program c.requires.at.0 c.args.placed c.requires.at.1)).named) in
+    let done = devices_done t st old (change words) c.is_sound.ensures (setout_effect s i words c.args.io.now t c.in-Setout.is (ports_fit s i words c.in-Setout.is (fit_there c.args.program.now c.requires.program c.requires.at.0 c.args.placed.now c.requires.at.1)).named) in
     both_ok c.set_output.result c.set_output.ensures.devices c.set_output.ensures.lines
     (λ devices lines.
     subst
@@ -69,36 +69,36 @@ pub returns-in-Setout-clause-numbers : goal.returns-in-Setout-clause-numbers
 returns-in-Setout-clause-numbers c works silent =
     let p = c.args.program.now in
     let s = p.space.vars in
-    let i = c.args.placed.instr in
+    let i = c.args.placed.now.instr in
     let words = p.code.words in
-    let named = (ports_fit s i words c.in-Setout.is (fit_there p c.requires.program c.requires.at.0 c.args.placed c.requires.at.1)).named in
+    let named = (ports_fit s i words c.in-Setout.is (fit_there p c.requires.program c.requires.at.0 c.args.placed.now c.requires.at.1)).named in
     let none = sym (ap (λ (e : Effect). e.lines) (setout_effect s i words c.args.io.now (clock_of c.args.clock) c.in-Setout.is named)) ∙ silent in
     c.set_output.ensures.silent (port_number s i words c.in-Setout.is named works)
     (ap (λ ws. (set_motors_by s (ports_at s i.a) (drop 1 (statement_of i ws).args) c.args.io.now).lines) c.words-words.ensures ∙ none)
 
 pub get_output-requires-clause-number : goal.get_output-requires-clause-number
 get_output-requires-clause-number c =
-    (output_fits c.args.program.now.space.vars c.args.placed.instr c.args.program.now.code.words c.in-Getout.is (fit_there c.args.program.now c.requires.program c.requires.at.0 c.args.placed c.requires.at.1)).has
+    (output_fits c.args.program.now.space.vars c.args.placed.now.instr c.args.program.now.code.words c.in-Getout.is (fit_there c.args.program.now c.requires.program c.requires.at.0 c.args.placed.now c.requires.at.1)).has
 
 pub get_output-requires-clause-property : goal.get_output-requires-clause-property
 get_output-requires-clause-property c =
-    getout_property c.args.program.now.space.vars c.args.placed.instr c.args.program.now.code.words (fit_there c.args.program.now c.requires.program c.requires.at.0 c.args.placed c.requires.at.1) c.in-Getout.is
+    getout_property c.args.program.now.space.vars c.args.placed.now.instr c.args.program.now.code.words (fit_there c.args.program.now c.requires.program c.requires.at.0 c.args.placed.now c.requires.at.1) c.in-Getout.is
 
 pub returns-in-Getout-clause-done : goal.returns-in-Getout-clause-done
 returns-in-Getout-clause-done c =
     let p = c.args.program.now in
     let s = p.space.vars in
-    let i = c.args.placed.instr in
+    let i = c.args.placed.now.instr in
     let words = p.code.words in
     let d = c.args.io.now in
     let t = clock_of c.args.clock in
     number_done p.space c.get_output.new.space d c.args.out.now.lines t (statement_of i words) i.a (part_of (named s.shapes i.b) ∷ Plain i.c ∷ []) (get_out (word (number_at s i.b)) i.c d) c.is_sound.ensures
-    (output_fits s i words c.in-Getout.is (fit_there c.args.program.now c.requires.program c.requires.at.0 c.args.placed c.requires.at.1)) (getout_refers s i words d t c.in-Getout.is) (getout_effect s i words d t c.in-Getout.is) c.get_output.ensures.value
+    (output_fits s i words c.in-Getout.is (fit_there c.args.program.now c.requires.program c.requires.at.0 c.args.placed.now c.requires.at.1)) (getout_refers s i words d t c.in-Getout.is) (getout_effect s i words d t c.in-Getout.is) c.get_output.ensures.value
 
 pub returns-in-Getout-clause-program : goal.returns-in-Getout-clause-program
 returns-in-Getout-clause-program c =
     let s = c.args.program.now.space.vars in
-    program_kept c.args.program.now c.get_output.new.space (kept_by s c.get_output.new.space.vars c.args.placed.instr.a _ c.get_output.ensures.value) c.requires.program
+    program_kept c.args.program.now c.get_output.new.space (kept_by s c.get_output.new.space.vars c.args.placed.now.instr.a _ c.get_output.ensures.value) c.requires.program
 
 -- ---- sensors
 
@@ -106,7 +106,7 @@ pub returns-in-Setin-clause-done : goal.returns-in-Setin-clause-done
 returns-in-Setin-clause-done c =
     let p = c.args.program.now in
     let s = p.space.vars in
-    let i = c.args.placed.instr in
+    let i = c.args.placed.now.instr in
     let words = p.code.words in
     let d = c.args.io.now in
     let t = clock_of c.args.clock in
@@ -123,47 +123,47 @@ returns-in-Setin-clause-done c =
 
 pub get_input-requires-clause-number : goal.get_input-requires-clause-number
 get_input-requires-clause-number c =
-    (input_fits c.args.program.now.space.vars c.args.placed.instr c.args.program.now.code.words c.in-Getin.is (fit_there c.args.program.now c.requires.program c.requires.at.0 c.args.placed c.requires.at.1)).has
+    (input_fits c.args.program.now.space.vars c.args.placed.now.instr c.args.program.now.code.words c.in-Getin.is (fit_there c.args.program.now c.requires.program c.requires.at.0 c.args.placed.now c.requires.at.1)).has
 
 pub get_input-requires-clause-property : goal.get_input-requires-clause-property
 get_input-requires-clause-property c =
-    getin_property c.args.program.now.space.vars c.args.placed.instr c.args.program.now.code.words (fit_there c.args.program.now c.requires.program c.requires.at.0 c.args.placed c.requires.at.1) c.in-Getin.is
+    getin_property c.args.program.now.space.vars c.args.placed.now.instr c.args.program.now.code.words (fit_there c.args.program.now c.requires.program c.requires.at.0 c.args.placed.now c.requires.at.1) c.in-Getin.is
 
 pub returns-in-Getin-clause-done : goal.returns-in-Getin-clause-done
 returns-in-Getin-clause-done c =
     let p = c.args.program.now in
     let s = p.space.vars in
-    let i = c.args.placed.instr in
+    let i = c.args.placed.now.instr in
     let words = p.code.words in
     let d = c.args.io.now in
     let t = clock_of c.args.clock in
     number_done p.space c.get_input.new.space d c.args.out.now.lines t (statement_of i words) i.a (part_of (named s.shapes i.b) ∷ Plain i.c ∷ []) (get_in (word (number_at s i.b)) i.c d) c.is_sound.ensures
-    (input_fits s i words c.in-Getin.is (fit_there c.args.program.now c.requires.program c.requires.at.0 c.args.placed c.requires.at.1)) (getin_refers s i words d t c.in-Getin.is) (getin_effect s i words d t c.in-Getin.is) c.get_input.ensures.value
+    (input_fits s i words c.in-Getin.is (fit_there c.args.program.now c.requires.program c.requires.at.0 c.args.placed.now c.requires.at.1)) (getin_refers s i words d t c.in-Getin.is) (getin_effect s i words d t c.in-Getin.is) c.get_input.ensures.value
 
 pub returns-in-Getin-clause-program : goal.returns-in-Getin-clause-program
 returns-in-Getin-clause-program c =
     let s = c.args.program.now.space.vars in
-    program_kept c.args.program.now c.get_input.new.space (kept_by s c.get_input.new.space.vars c.args.placed.instr.a _ c.get_input.ensures.value) c.requires.program
+    program_kept c.args.program.now c.get_input.new.space (kept_by s c.get_input.new.space.vars c.args.placed.now.instr.a _ c.get_input.ensures.value) c.requires.program
 
 -- ---- the clock
 
 pub set-requires : goal.set-requires
-set-requires c = (tick_fits c.args.program.now.space.vars c.args.placed.instr c.args.program.now.code.words c.in-Gettick.is (fit_there c.args.program.now c.requires.program c.requires.at.0 c.args.placed c.requires.at.1)).has
+set-requires c = (tick_fits c.args.program.now.space.vars c.args.placed.now.instr c.args.program.now.code.words c.in-Gettick.is (fit_there c.args.program.now c.requires.program c.requires.at.0 c.args.placed.now c.requires.at.1)).has
 
 pub returns-in-Gettick-clause-done : goal.returns-in-Gettick-clause-done
 returns-in-Gettick-clause-done c =
     let p = c.args.program.now in
     let s = p.space.vars in
-    let i = c.args.placed.instr in
+    let i = c.args.placed.now.instr in
     let words = p.code.words in
     let d = c.args.io.now in
     let t = clock_of c.args.clock in
     let now = to_z_pos w64 c.args.clock.now (let small = c.requires.clock in omega (arith, small)) in
     number_done p.space c.set.new.self d c.args.out.now.lines t (statement_of i words) i.a [] (pos c.args.clock.now) c.is_sound.ensures
-    (tick_fits s i words c.in-Gettick.is (fit_there c.args.program.now c.requires.program c.requires.at.0 c.args.placed c.requires.at.1)) (gettick_refers s i words d t c.in-Gettick.is) (gettick_effect s i words d t c.in-Gettick.is)
+    (tick_fits s i words c.in-Gettick.is (fit_there c.args.program.now c.requires.program c.requires.at.0 c.args.placed.now c.requires.at.1)) (gettick_refers s i words d t c.in-Gettick.is) (gettick_effect s i words d t c.in-Gettick.is)
     (c.set.ensures.value ∙ ap (λ z. record s { values = with_value s i.a (stored (shape_of s i.a) (Num z)) }) now)
 
 pub returns-in-Gettick-clause-program : goal.returns-in-Gettick-clause-program
 returns-in-Gettick-clause-program c =
     let s = c.args.program.now.space.vars in
-    program_kept c.args.program.now c.set.new.self (kept_by s c.set.new.self.vars c.args.placed.instr.a _ c.set.ensures.value) c.requires.program
+    program_kept c.args.program.now c.set.new.self (kept_by s c.set.new.self.vars c.args.placed.now.instr.a _ c.set.ensures.value) c.requires.program

@@ -22,7 +22,7 @@ use Rattle.nxt_machine.proofs.statement.arrange.Goals as goal
 pub run_array-requires : goal.run_array-requires
 run_array-requires c =
     let p = c.args.program.now in
-    let x = c.args.placed in
+    let x = c.args.placed.now in
     subst
     (λ ws. CanRun x.instr ws p.toc p.space.vars)
     (sym c.words.ensures)
@@ -37,7 +37,7 @@ run_array-requires c =
 pub returns-in-Ok-clause-did : goal.returns-in-Ok-clause-did
 returns-in-Ok-clause-did c d lines t =
     let p = c.args.program.now in
-    let x = c.args.placed in
+    let x = c.args.placed.now in
     list_ran p.space c.run_array.new.space p.code.words d lines t c.args.place x.word x.instr c.requires.on_lists
     (subst (λ ws. Does {T = Unit {0}} Done (values_after p.space.vars x.instr ws d t) p.space (Ok tt) c.run_array.new.space)
     c.words.ensures (c.in-Ok.ensures.does d t))
@@ -45,7 +45,7 @@ returns-in-Ok-clause-did c d lines t =
 pub returns-in-Err-PoolPassed-clause-did : goal.returns-in-Err-PoolPassed-clause-did
 returns-in-Err-PoolPassed-clause-did c d lines t =
     let p = c.args.program.now in
-    let x = c.args.placed in
+    let x = c.args.placed.now in
     let old : Told = record { vars = p.space.vars; devices = d; lines = lines } in
     let new : Told = record { vars = c.run_array.new.space.vars; devices = d; lines = lines } in
     subst
@@ -99,15 +99,15 @@ stays_there p is place x at run new kept left d t =
 
 pub returns-in-Ok-clause-stays : goal.returns-in-Ok-clause-stays
 returns-in-Ok-clause-stays c =
-    stays_there c.args.program.now c.requires.program c.args.place c.args.placed c.requires.at c.requires.on_lists c.run_array.new.space
+    stays_there c.args.program.now c.requires.program c.args.place c.args.placed.now c.requires.at c.requires.on_lists c.run_array.new.space
     (kept_after _ _ c.args.program.now.space c.run_array.new.space c.run_array.result (c.run_array.ensures.does at_start origin)) c.run_array.ensures.leaves
 
 pub returns-in-Err-PoolPassed-clause-stays : goal.returns-in-Err-PoolPassed-clause-stays
 returns-in-Err-PoolPassed-clause-stays c =
-    stays_there c.args.program.now c.requires.program c.args.place c.args.placed c.requires.at c.requires.on_lists c.run_array.new.space
+    stays_there c.args.program.now c.requires.program c.args.place c.args.placed.now c.requires.at c.requires.on_lists c.run_array.new.space
     (kept_after _ _ c.args.program.now.space c.run_array.new.space c.run_array.result (c.run_array.ensures.does at_start origin)) c.run_array.ensures.leaves
 
 pub returns-in-Err-NoMemory-clause-stays : goal.returns-in-Err-NoMemory-clause-stays
 returns-in-Err-NoMemory-clause-stays c =
-    stays_there c.args.program.now c.requires.program c.args.place c.args.placed c.requires.at c.requires.on_lists c.run_array.new.space
+    stays_there c.args.program.now c.requires.program c.args.place c.args.placed.now c.requires.at c.requires.on_lists c.run_array.new.space
     (kept_after _ _ c.args.program.now.space c.run_array.new.space c.run_array.result (c.run_array.ensures.does at_start origin)) c.run_array.ensures.leaves

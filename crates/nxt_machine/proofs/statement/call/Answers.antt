@@ -25,17 +25,17 @@ is_call p is place x at e =
     call_fits p.space.vars x.instr p.code.words e (is.fit place (x.word, statement_of x.instr p.code.words) (there p is place x at))
 
 pub syscall-requires : goal.syscall-requires
-syscall-requires c = can_call c.args.program.now.space.vars c.args.placed.instr c.is_sound.ensures (is_call c.args.program.now c.requires.program c.args.place c.args.placed c.requires.at c.requires.call)
+syscall-requires c = can_call c.args.program.now.space.vars c.args.placed.now.instr c.is_sound.ensures (is_call c.args.program.now c.requires.program c.args.place c.args.placed.now c.requires.at c.requires.call)
 
 pub overflow_add-result : goal.overflow_add-result
-overflow_add-result c = let few = few_before c.args.program.now c.requires.program c.args.place c.args.placed c.requires.at in omega (arith, few)
+overflow_add-result c = let few = few_before c.args.program.now c.requires.program c.args.place c.args.placed.now c.requires.at in omega (arith, few)
 
 pub returns-in-Ok-clause-did : goal.returns-in-Ok-clause-did
 returns-in-Ok-clause-did c =
     let p = c.args.program.now in
-    let x = c.args.placed in
+    let x = c.args.placed.now in
     call_ran p.space c.syscall.new.space p.code.words c.args.place x.word (clock_of c.args.clock) x.instr c.args.io.now c.syscall.new.io c.args.out.now c.syscall.new.out c.requires.call
-    (is_call c.args.program.now c.requires.program c.args.place c.args.placed c.requires.at c.requires.call).cluster.named c.in-Ok.ensures.calls
+    (is_call c.args.program.now c.requires.program c.args.place c.args.placed.now c.requires.at c.requires.call).cluster.named c.in-Ok.ensures.calls
 
 pub returns-in-Ok-clause-program : goal.returns-in-Ok-clause-program
 returns-in-Ok-clause-program c = still_program Done _ c.args.program.now c.syscall.new.space (Ok tt) c.in-Ok.ensures.calls.0 c.requires.program
@@ -43,7 +43,7 @@ returns-in-Ok-clause-program c = still_program Done _ c.args.program.now c.sysca
 pub returns-in-Err-PoolPassed-clause-did : goal.returns-in-Err-PoolPassed-clause-did
 returns-in-Err-PoolPassed-clause-did c =
     let p = c.args.program.now in
-    let x = c.args.placed in
+    let x = c.args.placed.now in
     let t = clock_of c.args.clock in
     let old : Told = record { vars = p.space.vars; devices = c.args.io.now; lines = c.args.out.now.lines } in
     let new : Told = record { vars = c.syscall.new.space.vars; devices = c.syscall.new.io; lines = c.syscall.new.out.lines } in
@@ -51,7 +51,7 @@ returns-in-Err-PoolPassed-clause-did c =
     (IsPassed t (statement_of x.instr p.code.words) old new)
     (sym c.in-Err-PoolPassed.bytes-is)
     (call_refused p.space c.syscall.new.space p.code.words c.args.place x.word t x.instr c.args.io.now c.syscall.new.io c.args.out.now c.syscall.new.out c.requires.call
-    (is_call c.args.program.now c.requires.program c.args.place c.args.placed c.requires.at c.requires.call).cluster.named c.in-Err-PoolPassed.bytes
+    (is_call c.args.program.now c.requires.program c.args.place c.args.placed.now c.requires.at c.requires.call).cluster.named c.in-Err-PoolPassed.bytes
     (subst
     (λ e. Calls x.instr.a x.instr.b t p.space c.args.io.now c.args.out.now (Err e) c.syscall.new.space c.syscall.new.io c.syscall.new.out)
     c.in-Err-PoolPassed.field-0-is
@@ -67,17 +67,17 @@ stays_there p is place x at e sound new same left d t = called_stays p.space new
 pub returns-in-Ok-clause-stays : goal.returns-in-Ok-clause-stays
 returns-in-Ok-clause-stays c =
     let s = c.args.program.now.space in
-    stays_there c.args.program.now c.requires.program c.args.place c.args.placed c.requires.at c.requires.call c.is_sound.ensures c.syscall.new.space
+    stays_there c.args.program.now c.requires.program c.args.place c.args.placed.now c.requires.at c.requires.call c.is_sound.ensures c.syscall.new.space
     (shapes_kept s.vars c.syscall.new.space.vars (kept_after Done _ s c.syscall.new.space (Ok tt) c.in-Ok.ensures.calls.0)) c.syscall.ensures.leaves c.args.io.now (clock_of c.args.clock)
 
 pub returns-in-Err-PoolPassed-clause-stays : goal.returns-in-Err-PoolPassed-clause-stays
 returns-in-Err-PoolPassed-clause-stays c =
     let s = c.args.program.now.space in
-    stays_there c.args.program.now c.requires.program c.args.place c.args.placed c.requires.at c.requires.call c.is_sound.ensures c.syscall.new.space
+    stays_there c.args.program.now c.requires.program c.args.place c.args.placed.now c.requires.at c.requires.call c.is_sound.ensures c.syscall.new.space
     (shapes_kept s.vars c.syscall.new.space.vars (kept_after Done _ s c.syscall.new.space (Err _) c.in-Err-PoolPassed.ensures.calls.0)) c.syscall.ensures.leaves c.args.io.now (clock_of c.args.clock)
 
 pub returns-in-Err-NoMemory-clause-stays : goal.returns-in-Err-NoMemory-clause-stays
 returns-in-Err-NoMemory-clause-stays c =
     let s = c.args.program.now.space in
-    stays_there c.args.program.now c.requires.program c.args.place c.args.placed c.requires.at c.requires.call c.is_sound.ensures c.syscall.new.space
+    stays_there c.args.program.now c.requires.program c.args.place c.args.placed.now c.requires.at c.requires.call c.is_sound.ensures c.syscall.new.space
     (shapes_kept s.vars c.syscall.new.space.vars (kept_after Done _ s c.syscall.new.space (Err _) c.in-Err-NoMemory.ensures.calls.0)) c.syscall.ensures.leaves c.args.io.now (clock_of c.args.clock)

@@ -28,7 +28,7 @@ run_op-requires c =
       entries = c.requires.program.entries;
       shapes = c.requires.program.shapes;
       sound = c.is_sound.ensures;
-      fit = c.requires.program.fit c.args.place (c.args.placed.word, statement_in c.args.placed.instr) (statement_there p c.requires.program c.args.place c.args.placed c.requires.at c.requires.computes);
+      fit = c.requires.program.fit c.args.place (c.args.placed.now.word, statement_in c.args.placed.now.instr) (statement_there p c.requires.program c.args.place c.args.placed.now c.requires.at c.requires.computes);
     }
 
 -- a jump tells the offset of its first operand
@@ -39,7 +39,7 @@ offset_is i false z e = let f : ⊥ = cc in absurd f
 pub returns-in-Ok-Fall-clause-did : goal.returns-in-Ok-Fall-clause-did
 returns-in-Ok-Fall-clause-did c d lines t =
     let p = c.args.program.now in
-    fell p.space c.run_op.new.space p.code.words d lines t c.args.place c.args.placed.word c.args.placed.instr c.requires.computes
+    fell p.space c.run_op.new.space p.code.words d lines t c.args.place c.args.placed.now.word c.args.placed.now.instr c.requires.computes
     (let g = c.in-Ok-Fall.ensures.does d t in (g.0, g.1, sym c.in-Ok-Fall.field-0-is ∙ g.2))
 
 pub returns-in-Ok-Jump-clause-did : goal.returns-in-Ok-Jump-clause-did
@@ -52,9 +52,9 @@ returns-in-Ok-Jump-clause-did c d lines t =
     let word =
     to_z-of_z {w = w64} {z = c.landing-word.result} (record { sfits = c.landing-word.type_inv })
     ∙ c.landing-word.ensures
-    ∙ ap (landing c.args.placed.word) (to_z-of_z {w = w32} {z = offset} (record { sfits = fits }) ∙ offset_is c.args.placed.instr _ offset next)
+    ∙ ap (landing c.args.placed.now.word) (to_z-of_z {w = w32} {z = offset} (record { sfits = fits }) ∙ offset_is c.args.placed.now.instr _ offset next)
     in
-    jumped p.space c.run_op.new.space p.code.words d lines t c.args.place c.args.placed.word c.args.placed.instr c.requires.computes
+    jumped p.space c.run_op.new.space p.code.words d lines t c.args.place c.args.placed.now.word c.args.placed.now.instr c.requires.computes
     offset _ (told.0, told.1, next)
     (c.statement_number.ensures p.code.words c.requires.program.code ∙ ap (statement_number (statements p.code.words)) word)
 
@@ -64,11 +64,11 @@ returns-in-Err-PoolPassed-clause-did c d lines t =
     let old : Told = record { vars = p.space.vars; devices = d; lines = lines } in
     let new : Told = record { vars = c.run_op.new.space.vars; devices = d; lines = lines } in
     subst
-    (IsPassed t (statement_of c.args.placed.instr p.code.words) old new)
+    (IsPassed t (statement_of c.args.placed.now.instr p.code.words) old new)
     (sym c.in-Err-PoolPassed.bytes-is)
-    (refused p.space c.run_op.new.space p.code.words d lines t c.args.place c.args.placed.word c.args.placed.instr c.requires.computes c.in-Err-PoolPassed.bytes c.is_sound.ensures
+    (refused p.space c.run_op.new.space p.code.words d lines t c.args.place c.args.placed.now.word c.args.placed.now.instr c.requires.computes c.in-Err-PoolPassed.bytes c.is_sound.ensures
     (subst
-    (λ e. Tells p.space c.run_op.new.space p.code.words d lines t c.args.place c.args.placed.word c.args.placed.instr c.requires.computes (Err e))
+    (λ e. Tells p.space c.run_op.new.space p.code.words d lines t c.args.place c.args.placed.now.word c.args.placed.now.instr c.requires.computes (Err e))
     c.in-Err-PoolPassed.field-0-is
     (c.in-Err-PoolPassed.ensures.does d t)))
 
@@ -118,20 +118,20 @@ stays_there p is place x at run new kept left d t =
 
 pub returns-in-Ok-Fall-clause-stays : goal.returns-in-Ok-Fall-clause-stays
 returns-in-Ok-Fall-clause-stays c =
-    stays_there c.args.program.now c.requires.program c.args.place c.args.placed c.requires.at c.requires.computes c.run_op.new.space
+    stays_there c.args.program.now c.requires.program c.args.place c.args.placed.now c.requires.at c.requires.computes c.run_op.new.space
     (kept_after _ _ c.args.program.now.space c.run_op.new.space c.run_op.result (c.run_op.ensures.does at_start origin)) c.run_op.ensures.leaves
 
 pub returns-in-Ok-Jump-clause-stays : goal.returns-in-Ok-Jump-clause-stays
 returns-in-Ok-Jump-clause-stays c =
-    stays_there c.args.program.now c.requires.program c.args.place c.args.placed c.requires.at c.requires.computes c.run_op.new.space
+    stays_there c.args.program.now c.requires.program c.args.place c.args.placed.now c.requires.at c.requires.computes c.run_op.new.space
     (kept_after _ _ c.args.program.now.space c.run_op.new.space c.run_op.result (c.run_op.ensures.does at_start origin)) c.run_op.ensures.leaves
 
 pub returns-in-Err-PoolPassed-clause-stays : goal.returns-in-Err-PoolPassed-clause-stays
 returns-in-Err-PoolPassed-clause-stays c =
-    stays_there c.args.program.now c.requires.program c.args.place c.args.placed c.requires.at c.requires.computes c.run_op.new.space
+    stays_there c.args.program.now c.requires.program c.args.place c.args.placed.now c.requires.at c.requires.computes c.run_op.new.space
     (kept_after _ _ c.args.program.now.space c.run_op.new.space c.run_op.result (c.run_op.ensures.does at_start origin)) c.run_op.ensures.leaves
 
 pub returns-in-Err-NoMemory-clause-stays : goal.returns-in-Err-NoMemory-clause-stays
 returns-in-Err-NoMemory-clause-stays c =
-    stays_there c.args.program.now c.requires.program c.args.place c.args.placed c.requires.at c.requires.computes c.run_op.new.space
+    stays_there c.args.program.now c.requires.program c.args.place c.args.placed.now c.requires.at c.requires.computes c.run_op.new.space
     (kept_after _ _ c.args.program.now.space c.run_op.new.space c.run_op.result (c.run_op.ensures.does at_start origin)) c.run_op.ensures.leaves

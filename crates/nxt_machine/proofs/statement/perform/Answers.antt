@@ -17,10 +17,10 @@ pub returns-then-runs-clause-numbers : goal.returns-then-runs-clause-numbers
 returns-then-runs-clause-numbers c works silent =
     let p = c.args.program.now in
     let s = p.space.vars in
-    let i = c.args.placed.instr in
+    let i = c.args.placed.now.instr in
     let run : computes i.op ≡ true = sym c.runs.ensures ∙ c.if-runs.true in
     let same = same_statement i p.code.words run in
     let all = (and_parts (computes i.op || is_of_devices i.op) (list_all is_a_number (operands_at s (statement_of i p.code.words))) works).1 in
     c.compute.ensures.numbers
-    (given_numbers s i (subst (AreFit s.shapes) same (fit_there p c.requires.program c.args.place c.args.placed c.requires.at)) run
+    (given_numbers s i (subst (AreFit s.shapes) same (fit_there p c.requires.program c.args.place c.args.placed.now c.requires.at)) run
     (sym (ap (λ st. list_all is_a_number (operands_at s st)) same) ∙ all))

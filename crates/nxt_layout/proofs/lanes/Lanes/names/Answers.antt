@@ -1,12 +1,12 @@
 -- Each row stands there as often as its bits tell.
-use Rattle.std.proofs.Common.{rules, ◌≡◌, ℕ, ◌+◌, ◌-◌, ◌<◌, ◌^◌, ◌++◌, ◌||◌, true, false, List, nat_lt, replicate, sym, ap, ap₂, ◌∙◌, subst, arith}
+use Rattle.std.proofs.Common.{rules, ◌≡◌, ℕ, ◌+◌, ◌-◌, ◌<◌, ◌^◌, ◌++◌, ◌||◌, true, false, List, nat_lt, length, replicate, sym, ap, ap₂, ◌∙◌, subst, arith}
 use Rattle.std.specs.Prelude.{slice_index_or}
-use Rattle.std.proofs.lemmas.List.{get_or_read_under}
+use Rattle.std.proofs.lemmas.List.{get_or_read_under, length-append, length-replicate}
 use Rattle.nxt_model.specs.Reading.{row_count}
 use Rattle.nxt_layout.specs.Rows.{Ground}
 use Rattle.nxt_layout.specs.Inside.RowPasses.{listed, any_below}
 use Rattle.nxt_layout.specs.Inside.Lanes.{Tells, no_bits, named_times, told_times, is_twice_at, AreLanes}
-use Rattle.nxt_layout.proofs.Dope.LaneNames.{rows_told, beyond_told, some_there, listed_next, any_next, lane_told, grown}
+use Rattle.nxt_layout.proofs.Dope.LaneNames.{rows_told, beyond_told, some_there, listed_next, any_next, lane_told}
 use Rattle.nxt_layout.proofs.lanes.Lanes.names.Goals as goal
 
 pub loop-row-preserved : goal.loop-row-preserved
@@ -15,12 +15,10 @@ loop-row-preserved c =
     let row = c.loop-row.row in
     let place = c.args.place in
     let is = c.loop-row.invariant in
-    let items : c.resize.new.self.items ≡ c.loop-row.rows.items ++ replicate c.times-times.result row =
-    c.in_ok-resize.ensures.items ∙ grown c.loop-row.rows.items c.len.result _ c.times-times.result row (omega (arith, c.len.ensures)) (search rules) in
     let flag : c.if-is_twice.is_twice ≡ (c.loop-row.is_twice || nat_lt 1 c.times-times.result) = search rules in
     let here : c.index.result.now ≡ slice_index_or l.rows.items row no_bits =
     get_or_read_under l.rows.items row (l.table_rows + 1) c.index.result.now no_bits
-    (subst (λ n. c.index.result.now ≡ slice_index_or l.rows.items n c.index.result.now) c.from.ensures c.index.ensures)
+    (subst (λ n. c.index.result.now ≡ slice_index_or l.rows.items n c.index.result.now) c.from-in-loop-row.ensures c.index.ensures)
     (omega (arith, c.loop-row-test.true)) (sym l.count) in
     let told : (g : Ground) (places : List ℕ) → AreLanes g places l → c.times-times.result ≡ told_times g places place row =
     λ g places are.
@@ -30,9 +28,12 @@ loop-row-preserved c =
     (sym here)
     (lane_told g places l place row are c.requires.from c.requires.within (omega (arith, c.loop-row-test.true, are.table)))) in
     record {
-      few = omega (arith, is.few, c.in_ok-resize.ensures.len, c.len.ensures, c.times-times.ensures.few);
+      few =
+          let long : length c.push_times.new.rows.items ≡ length c.loop-row.rows.items + c.times-times.result =
+          ap length c.in_ok-push_times.ensures ∙ length-append c.loop-row.rows.items (replicate c.times-times.result row) ∙ ap (λ n. length c.loop-row.rows.items + n) (length-replicate c.times-times.result row) in
+          omega (arith, is.few, long, c.times-times.ensures.few);
       rows = λ g places are.
-          items
+          c.in_ok-push_times.ensures
           ∙ ap₂ (λ (xs : List ℕ) (n : ℕ). xs ++ replicate n row) (is.rows g places are) (told g places are)
           ∙ sym (listed_next (told_times g places place) row);
       twice = λ g places are.

@@ -30,4 +30,4 @@ returns-in-None-clause-names c =
     let kept = read.places.places ∙ ap (λ rs. fold keep_twice [] (flat_map (elements_of g) rs)) (read.rows ∙ c.in_ok-walk.ensures.rows) in
     IfOk-weaker c.names_there.result _ _
     (λ o told. ordered_all g place all o (subst (λ ps. AreOrdered g (numbers_in g place ps) o) kept told))
-    c.names_there.ensures.names
+    c.names_there.ensures
