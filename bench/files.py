@@ -5,9 +5,9 @@ Two files have a table of 49,000 entries: they share no byte, or the last stands
 65,000 code words with a jump in each second statement: each lands on a statement, or the last lands inside one. Two have
 21,000 movs of a cluster: one of 24,000 members to itself, or one of 12,000 to another. Three have a list of 2,000 or 5,000
 lists of a byte each: they share no byte, the last two share theirs, or all share one. In one lists stand eight deep, and each
-of 3,000 elements names the same next list. In fifteen clusters of lists stand in the elements of many rows, which are others in
-each cluster: long rows that end together, or short ones that lie anywhere. In the rest many variables or many rows name the
-same overlapping rows. Prints the seconds and the line of each.
+of 3,000 elements names the same next list. In seventeen clusters of lists stand in the elements of many rows, which are others
+in each cluster: long rows that end together, or short ones that lie anywhere. In the rest many variables or many rows name
+the same overlapping rows. Prints the seconds and the line of each.
 """
 import os
 import struct
@@ -219,6 +219,8 @@ FILES = (
     ("1,000 of 20 in short rows", short_file(1000, 20, 1000, 4)),
     ("2,000 of 10 in short rows", short_file(2000, 10, 1500, 2)),
     ("500 of 40 in short rows", short_file(500, 40, 1200, 3)),
+    ("3,000 of 4 lists, two deep", members_file(3000, 4, 1500, 200, 3, 2)),
+    ("2,000 of 3 lists, three deep", members_file(2000, 3, 3000, 200, 2, 3)),
 )
 
 
