@@ -6,8 +6,8 @@ Two files have a table of 49,000 entries: they share no byte, or the last stands
 21,000 movs of a cluster: one of 24,000 members to itself, or one of 12,000 to another. Three have a list of 2,000 or 5,000
 lists of a byte each: they share no byte, the last two share theirs, or all share one. In one lists stand eight deep, and each
 of 3,000 elements names the same next list. In seventeen clusters of lists stand in the elements of many rows, which are others
-in each cluster: long rows that end together, or short ones that lie anywhere. In the rest many variables or many rows name
-the same overlapping rows. Prints the seconds and the line of each.
+in each cluster: long rows that end together, or short ones that lie anywhere. In two each list of thousands in lists is read
+in other rows. In the rest many variables or many rows name the same overlapping rows. Prints the seconds and the line of each.
 """
 import os
 import struct
@@ -179,6 +179,21 @@ def short_file(clusters, members, rows, elements):
     return clusters_file(clusters, members, 1, rows, lambda i: rows - i % 7, lists)
 
 
+def chains_file(variables, depth, half):
+    """Variables so deep, each of which begins with a lower and an upper row. What lower rows name begins a number earlier at
+    each level, and what upper rows name ends one later, so that each list in a list is read in other rows."""
+    entries = sum((nest(depth, 2 * i) for i in range(variables)), [])
+    count = (65000 - 16 * variables - 20 * half - 10) // 2
+    lower, upper, behind, middle = 1 + variables, 1 + variables + half, 4 * variables, count - half
+    rows = [(4 * i, 2, 2) for i in range(variables)]
+    rows += [(behind + 2 * r, 2, middle - r) for r in range(half)]
+    rows += [(behind + 2 * half, 2, middle + r + 1 - half) for r in range(half)]
+    names = [row for i in range(variables) for row in (lower + i * 7 % half, upper + i * 13 % half)]
+    names += [lower + max(p - 1, 0) for p in range(half)] + [lower + half - 1] * (middle - half)
+    names += [upper + min(p + 1, half - 1) for p in range(half)]
+    return rows_file(entries, range(1, variables + 1), rows, struct.pack("<%dH" % len(names), *names))
+
+
 FILES = (
     ("49,000 entries apart", table_file(ENTRIES - 1)),
     ("their last pair overlaps", table_file(ENTRIES - 2)),
@@ -221,6 +236,8 @@ FILES = (
     ("500 of 40 in short rows", short_file(500, 40, 1200, 3)),
     ("3,000 of 4 lists, two deep", members_file(3000, 4, 1500, 200, 3, 2)),
     ("2,000 of 3 lists, three deep", members_file(2000, 3, 3000, 200, 2, 3)),
+    ("2,000 chains, eight deep", chains_file(2000, 8, 400)),
+    ("1,000 chains of more rows", chains_file(1000, 8, 1200)),
 )
 
 

@@ -1,36 +1,44 @@
 -- Dope rows: which are named, and what is found through them.
 
--- The rows that numbers name, number by number.
-pub mod Named
--- The first row with elements, and the first one with another stride, tell which rows are read.
+-- What each of the rows that an array names keeps, each of them by itself.
 pub mod Strides
--- What is found through a table's arrays: their entries rise, and stand below the table's end.
-pub mod Arrays
--- What is found through one array.
-pub mod Through
 -- The lists that are found, by the rows that the arrays' numbers name: each row that is reached is held as often.
 pub mod Counts
--- The rows that are found through arrays, where each is kept at most twice, agree with those that are reached.
+-- What is found through a table's arrays: their entries rise, and stand below the table's end.
+pub mod Arrays
+-- What is found through the array of a leaf: the rows that are reached.
 pub mod Reached
--- The pass over a file's arrays finds what is read through each, where each row is kept at most twice.
+-- The pass over a file's arrays finds the rows that are reached through each.
 pub mod Scanned
--- Lists of numbers that agree in which of them pass a test: none, one or many.
-pub mod NoneOneMany
 -- Searches and sums over the rows of a table, row by row.
 pub mod Searches
 -- Spans that follow one another share no byte, and the span of a row.
 pub mod Spans
--- Rows in the order of number are the same rows, each as often.
-pub mod InOrder
--- Places that are kept at most twice tell the same of the numbers that stand there.
-pub mod Places
--- The names of single rows, joined, are those that all their numbers name.
-pub mod Joined
--- What is kept of rows stays right with one more.
-pub mod Kept
 -- The first pair of spans that share a byte.
 pub mod FirstOverlap
--- What 64 places one behind another tell, number by number.
+-- Rows that arrays name, array by array.
+pub mod NamedBy
+-- A table's arrays, each by the array around it.
+pub mod Nesting
+-- A table's arrays in groups, each array behind the one around it.
+pub mod Grouped
+-- Marks in lanes at the places of runs.
+pub mod Marks
+-- Marks that spreads make into others.
+pub mod Spreads
+-- What the numbers of lanes name, number by number.
 pub mod Lanes
--- What they tell names the rows in order.
-pub mod LaneNames
+-- Where numbers stand, lane by lane.
+pub mod Sites
+-- What the bits of a group's arrays tell, and the places of their elements.
+pub mod Told
+-- What all arrays of a table name, group by group.
+pub mod AllNames
+-- Which array names a row, where no row is named twice.
+pub mod Owned
+-- The last row with elements of each array, row by row.
+pub mod LastRows
+-- The elements of the rows that an array names, where no rule on rows is broken.
+pub mod OwnedElements
+-- The strides of arrays, row by row.
+pub mod StridesFound

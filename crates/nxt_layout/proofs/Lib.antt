@@ -1,4 +1,5 @@
 mod Dope
+mod Swept
 mod Start
 mod Rules
 pub mod Laws

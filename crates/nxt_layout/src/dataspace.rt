@@ -1,6 +1,6 @@
 // A file's dataspace, and the rows of its table in it.
 
-ghost use Rattle.std.specs.Prelude.{◌≡◌, ◌<◌, ◌≤◌, ◌^◌, ◌+◌, ◌*◌, ◌-◌, slice_index};
+ghost use Rattle.std.specs.Prelude.{◌≡◌, ◌<◌, ◌≤◌, ◌^◌, ◌+◌, ◌*◌, slice_index};
 ghost use Rattle.nxt_types.specs.Bytes.{u16_at};
 ghost use Rattle.nxt_model.specs.Reading.{row_count};
 ghost use Rattle.nxt_layout.specs.Rows.{row as dope_row, row_end, has_elements as row_has_elements, is_placed as row_is_placed};
@@ -19,31 +19,30 @@ pub struct Dataspace {
 
 impl Dataspace {
     /// The number of 16 bits at a place, the low byte first. A byte past the end counts as 0.
-    pub fn number_at(&self, at: u32) -> u16
-        requires { at < 2 ^ 32 - 1 }
+    pub fn number_at(&self, at: usize) -> u16
+        requires { at < 2 ^ 63 }
         ensures { result ≡ u16_at self.now.bytes.items at }
     {
-        let low = at as usize;
-        if low + 1 < self.bytes.len() {
-            return u16::from_le_bytes([self.bytes[low], self.bytes[low + 1]]);
+        if at + 1 < self.bytes.len() {
+            return u16::from_le_bytes([self.bytes[at], self.bytes[at + 1]]);
         }
         u16::from_le_bytes([self.byte_at(at), self.byte_at(at + 1)])
     }
 
-    fn byte_at(&self, at: u32) -> u8
+    fn byte_at(&self, at: usize) -> u8
         ensures { result ≡ slice_index self.now.bytes.items at }
     {
-        match self.bytes.get(at as usize) {
+        match self.bytes.get(at) {
             Some(byte) => *byte,
             None => 0,
         }
     }
 
-    fn row_at(&self, row: u16) -> u32
+    fn row_at(&self, row: u16) -> usize
         ensures place { result ≡ (ground_of self.now).memory.table + 10 * row }
         ensures bound { result < 2 ^ 20 }
     {
-        u32::from(self.table) + ROW_BYTES as u32 * u32::from(row)
+        usize::from(self.table) + ROW_BYTES as usize * usize::from(row)
     }
 
     /// Where the row's elements begin.

@@ -2,20 +2,24 @@
 //! rules of the table are those of `nxt_table` ("LEGO MINDSTORMS NXT Executable File Specification", "Dope Vectors").
 #![tactic(auto)]
 
-mod by_row;
+mod bits;
+mod counters;
 mod dataspace;
+mod edges;
 pub mod fault;
-mod known;
-mod lanes;
 pub mod layout;
-mod named_rows;
-mod places;
-mod reach;
-mod reading;
+mod marks;
+mod names;
+mod nested;
+mod reads;
+mod row_table;
 mod rows;
+mod runs;
+mod set_bits;
+mod sites;
 mod spans;
-mod strides;
-mod walked;
+mod sweep;
+mod table_rows;
 
 pub use fault::LayoutFault;
 pub use layout::{Layout, check_layout};

@@ -1,7 +1,6 @@
 -- What is found through a table's arrays: their entries rise, and stand below the table's end.
-use Rattle.std.proofs.Common.{◌≡◌, ℕ, zero, suc, ◌+◌, ◌<◌, ◌≤◌, Bool, true, false, cond, List, [], ◌∷◌, All, map, filter, length, take, get_or, Some, None, Option, refl, sym, ap, ◌∙◌, arith, length-append, ◌≢◌}
-use Rattle.std.specs.Prelude.{slice_index, slice_set}
-use Rattle.std.proofs.lemmas.List.{length-map, get_or-set_same, get_or-set_other}
+use Rattle.std.proofs.Common.{◌≡◌, ℕ, ◌+◌, ◌<◌, ◌≤◌, Bool, true, false, cond, List, [], ◌∷◌, All, map, filter, length, Some, None, Option, refl, arith, length-append}
+use Rattle.std.proofs.lemmas.List.{length-map}
 use Rattle.std.proofs.lemmas.List.Elements.{All-from_recursion, recursion_from_All}
 use Rattle.nxt_types.specs.declared.shape.TocEntry.{TocEntry}
 use Rattle.nxt_types.specs.Shapes.{outline}
@@ -10,42 +9,17 @@ use Rattle.nxt_table.specs.declared.item.Item.TheVariants as items
 use Rattle.nxt_table.specs.declared.enclosing.Frame.{Frame}
 use Rattle.nxt_table.specs.declared.enclosing.NestedEntry.{NestedEntry}
 use Rattle.nxt_table.specs.declared.leaves.PlacedLeaf.{PlacedLeaf}
-use Rattle.nxt_layout.specs.declared.reach.ArrayRows.{ArrayRows}
 use Rattle.nxt_rxe.specs.declared.parts.Parts.{Parts}
 use Rattle.nxt_table.specs.Inside.Items.{item, needs_behind}
 use Rattle.nxt_table.specs.Inside.Enclosing.{Mark, marks_from, marks, frames_behind, placed_by, placed_entries}
 use Rattle.nxt_table.specs.Inside.LeafPasses.{leaf_list, leaves_from}
 use Rattle.nxt_table.specs.Inside.Owners.{RisesFrom}
 use Rattle.nxt_layout.specs.Rows.{Ground}
-use Rattle.nxt_layout.specs.Inside.RowPasses.{Opened, is_array_item, array_leaves, extent_in, back_to, places_in, through_by, through_from, open_by, through, stride_in, ArraysRise, HaveStrides}
+use Rattle.nxt_layout.specs.Inside.RowPasses.{Opened, is_array_item, array_leaves, extent_in, back_to, places_in, through_by, through_from, open_by, ArraysRise}
 use Rattle.nxt_table.specs.Inside.Checks.{leaves_of}
 use Rattle.nxt_layout.specs.Inside.Passes.{arrays_in, ground_in}
 use Rattle.nxt_facts.proofs.Each.{Each, each_then, each_join, each_filter}
 use Rattle.nxt_table.proofs.Laws.Rising.{rises_later, rising_leaves}
-
--- ---- the bytes of elements
-
-bytes_same : (g : Ground) (e f : ℕ → ℕ) (l : PlacedLeaf) (bases : List ℕ) → e l.entry ≡ f l.entry → through_by g e l bases ≡ through_by g f l bases
-bytes_same g e f l bases h =
-    let t = through_by g e l bases in
-    ap (λ n. record { entry = t.entry; bytes = n; rows = t.rows; lists = t.lists; beyond = t.beyond }) h
-
--- the same is found where the bytes of these arrays' elements are the same
-pub found_same : (g : Ground) (e f : ℕ → ℕ) (os : List Opened) (ls : List PlacedLeaf) → Each (λ l. e l.entry ≡ f l.entry) ls → through_from g e os ls ≡ through_from g f os ls
-found_same g e f os [] h = refl
-found_same g e f os (l ∷ ls) h =
-    let around = back_to l.array os in
-    let t = through_by g f l (places_in g around) in
-    ap (λ t. t ∷ through_from g e (open_by g t ∷ around) ls) (bytes_same g e f l (places_in g around) h.0)
-    ∙ ap (λ ts. t ∷ ts) (found_same g e f (open_by g t ∷ around) ls h.1)
-
--- the bytes of elements are known below n, and so are the arrays
-pub found_below : (g : Ground) (n : ℕ) (e f : ℕ → ℕ) (ls : List PlacedLeaf) → All (λ l. l.entry < n) ls → ((a : ℕ) → a < n → e a ≡ f a) → through_from g e [] (array_leaves ls) ≡ through_from g f [] (array_leaves ls)
-found_below g n e f ls below same =
-    found_same g e f [] (array_leaves ls)
-    (each_filter (λ l. e l.entry ≡ f l.entry) (λ l. is_array_item l.item) ls
-    (each_then (λ l. l.entry < n) (λ l. is_array_item l.item ≡ true → e l.entry ≡ f l.entry) (λ l h _. same l.entry h) ls
-    (recursion_from_All (λ l. l.entry < n) ls below)))
 
 -- ---- entries
 
@@ -123,34 +97,3 @@ arrays_rise p =
     (some_rise (λ l. is_array_item l.item) 0 (leaves_of p) (rising_leaves 0 (placed_entries p.toc)))
     (each_filter (λ l. l.entry < length p.toc) (λ l. is_array_item l.item) (leaves_of p)
     (each_then (λ l. l.entry < length p.toc) (λ l. is_array_item l.item ≡ true → l.entry < length p.toc) (λ l h _. h) (leaves_of p) below))
-
--- ---- strides
-
--- the array at k is one from i on and below n
-pub array_at : (i n k : ℕ) (xs : List ArrayRows) (a : ArrayRows) → ArraysRise i n (map through xs) → k < length xs → a ≡ get_or xs k a → (i ≤ a.entry) × (a.entry < n)
-array_at i n k [] a r h e = absurd (omega (arith, h))
-array_at i n zero (x ∷ xs) a r h e =
-    let same : a.entry ≡ x.entry = ap (λ (y : ArrayRows). y.entry) e in
-    (omega (arith, r.0, same), omega (arith, r.1, same))
-array_at i n (suc k) (x ∷ xs) a r h e =
-    let later = array_at (x.entry + 1) n k xs a r.2 (omega (arith, h)) e in
-    (omega (arith, r.0, later.0), later.1)
-
-apart : (d e : ℕ) → e + 1 ≤ d → e ≢ d
-apart d e h = omega (arith, h)
-
--- one more array has its stride
-pub one_more_stride : (g : Ground) (i n k : ℕ) (xs : List ArrayRows) (a : ArrayRows) (strides : List ℕ) → ArraysRise i n (map through xs) → n ≤ length strides → k < length xs → a ≡ get_or xs k a →
-    HaveStrides g strides (map through (take k xs)) → HaveStrides g (slice_set strides a.entry (stride_in g (through a))) (map through (take (suc k) xs))
-one_more_stride g i n k [] a strides r few h e have = absurd (omega (arith, h))
-one_more_stride g i n zero (x ∷ xs) a strides r few h e have = (
-  ap (λ (y : ArrayRows). slice_index (slice_set strides a.entry (stride_in g (through a))) y.entry) (sym e)
-      ∙ get_or-set_same strides a.entry (stride_in g (through a)) 0 (omega (arith, few, (array_at i n 0 (x ∷ xs) a r h e).1))
-      ∙ ap (λ (y : ArrayRows). stride_in g (through y)) e,
-  tt,
-)
-one_more_stride g i n (suc k) (x ∷ xs) a strides r few h e have =
-    let later = array_at (x.entry + 1) n k xs a r.2 (omega (arith, h)) e in (
-      get_or-set_other strides a.entry x.entry (stride_in g (through a)) 0 (apart a.entry x.entry later.0) ∙ have.0,
-      one_more_stride g (x.entry + 1) n k xs a strides r.2 few (omega (arith, h)) e have.1,
-    )

@@ -129,11 +129,6 @@ spans_least (s ∷ ss) i m n h x = by (cases_lt s.row m) (spans_least ss (s.row 
 pub first_spans_pass : (ss : List Span) (w : ℕ × ℕ) → SpansRise 0 ss → first_spans ss ≡ Some w → SpansShare ss w.0 w.1
 first_spans_pass ss w h e = spans_pass ss 0 w h e
 
-pub shared_found : (ss : List Span) (a b : Span) → SpansRise 0 ss → find (λ s. s.row == a.row) ss ≡ Some a → find (λ s. s.row == b.row) ss ≡ Some b → a.row < b.row → spans_share a b ≡ true → (w : ℕ × ℕ) × (first_spans ss ≡ Some w) × ((w.0 < a.row) ⊎ ((w.0 ≡ a.row) × (w.1 ≤ b.row)))
-shared_found ss a b h x y rise share =
-    let least = spans_least ss 0 a.row b.row h (share_from ss a.row b.row a b x y rise share) in
-    (least.pair, least.is_pair, least.order)
-
 pub first_spans_least : (ss : List Span) (w : ℕ × ℕ) (m n : ℕ) → SpansRise 0 ss → first_spans ss ≡ Some w → SpansShare ss m n → IsTrue (comes_first (w.0 ∷ w.1 ∷ []) (m ∷ n ∷ []))
 first_spans_least ss w m n h e x =
     let least = spans_least ss 0 m n h x in

@@ -1,149 +1,20 @@
--- The rows that are found through arrays, where each is kept at most twice, agree with those that are reached.
-use Rattle.std.proofs.Common.{◌≡◌, ℕ, ◌+◌, ◌≤◌, ◌&&◌, ◌||◌, not, ◌==◌, nat_lt, nat_le, List, [], ◌∷◌, ◌++◌, map, filter, flat_map, length, refl, sym, ap, ◌∙◌, subst}
+-- What is found through the array of a leaf: the rows that are reached.
+use Rattle.std.proofs.Common.{◌≡◌, List, map, flat_map, length}
 use Rattle.std.specs.List.{list_any}
-use Rattle.std.proofs.lemmas.List.Elements.{filter-append, filter_agree}
-use Rattle.nxt_types.specs.Shapes.{Shape, Void, Number, Array, Cluster, Mutex, Members, no_members, member}
-use Rattle.nxt_types.specs.Names.{size}
+use Rattle.std.proofs.lemmas.List.Folds.{flat_map-map}
 use Rattle.nxt_table.specs.Leaves.{Leaf, extent}
-use Rattle.nxt_layout.specs.Rows.{Ground, row, has_elements, is_placed, is_strided_by, is_array, names_row, is_beyond, numbers_at, read_by, elements_of, element_places, numbers_of, reached_through}
-use Rattle.nxt_layout.specs.Inside.RowPasses.{Through, rows_of, all_rows}
-use Rattle.nxt_facts.proofs.Each.{Each, each_apart, each_join}
-use Rattle.nxt_facts.proofs.Sums.{tally, is_it}
-use Rattle.nxt_layout.proofs.Start.Leaves.{leaf_in, leaves_in, leaves_among}
-use Rattle.nxt_layout.proofs.Start.ValueAt.{number_at}
-use Rattle.nxt_layout.proofs.Dope.Counts.{arrays_among}
-use Rattle.nxt_layout.proofs.Dope.NoneOneMany.{AreAlike, alike_then, alike-append, alike-map, alike-filter, alike-flat_map, alike_any, alike_all, rows_alike, rows_exact}
+use Rattle.nxt_layout.specs.Rows.{Ground, is_beyond, element_places, numbers_of, reached_through}
+use Rattle.nxt_layout.specs.Inside.RowPasses.{Through, all_rows}
 
--- ---- what is found
-
--- where the elements stand that are read, where each row is kept at most twice
-abbrev pub few_places : Ground → List ℕ → List ℕ
-few_places g [] = 0 ∷ []
-few_places g (a ∷ around) =
-    flat_map (elements_of g) (read_by g (extent g.leaves a) (rows_of g (numbers_at g a (few_places g around))))
-
--- the rows that entry a names in them
-abbrev pub few_rows : Ground → ℕ → List ℕ → List ℕ
-few_rows g a around = rows_of g (numbers_at g a (few_places g around))
-
--- what is found through the array of a leaf
-abbrev pub few_through : Ground → Leaf → Through
-few_through g l =
+abbrev pub through_leaf : Ground → Leaf → Through
+through_leaf g l =
     record {
       entry = l.entry;
       bytes = extent g.leaves l.entry;
-      rows = few_rows g l.entry l.arrays;
-      lists = length (few_places g l.arrays);
-      beyond = list_any (is_beyond g) (numbers_at g l.entry (few_places g l.arrays));
+      rows = reached_through g l;
+      lists = length (element_places g l.arrays);
+      beyond = list_any (is_beyond g) (numbers_of g l);
     }
 
--- ---- they are alike
-
-same_test : (g : Ground) (bytes : ℕ) (xs ys : List ℕ) → AreAlike xs ys → (r : ℕ) → (is_placed g r && is_strided_by g bytes xs r) ≡ (is_placed g r && is_strided_by g bytes ys r)
-same_test g bytes xs ys h r =
-    ap
-    (λ b. is_placed g r && (not (has_elements g r) || (nat_le bytes (row g r).stride && b)))
-    (alike_all (λ q. not (nat_lt q r && has_elements g q) || ((row g q).stride == (row g r).stride)) xs ys h)
-
-pub read_alike : (g : Ground) (bytes : ℕ) (xs ys : List ℕ) → AreAlike xs ys → AreAlike (read_by g bytes xs) (read_by g bytes ys)
-read_alike g bytes xs ys h =
-    let test = λ (r : ℕ). is_placed g r && is_strided_by g bytes ys r in
-    subst
-    (λ zs. AreAlike zs (filter test ys))
-    (filter_agree test (λ r. is_placed g r && is_strided_by g bytes xs r) (λ r. same_test g bytes ys xs (λ p. sym (h p)) r) xs)
-    (alike-filter test xs ys h)
-
--- the rows that entry a names in elements
-rows_named_alike : (g : Ground) (a : ℕ) (xs ys : List ℕ) → AreAlike xs ys → AreAlike (rows_of g (numbers_at g a xs)) (filter (names_row g) (numbers_at g a ys))
-rows_named_alike g a xs ys h =
-    alike_then
-    (rows_of g (numbers_at g a xs))
-    (filter (names_row g) (numbers_at g a xs))
-    (filter (names_row g) (numbers_at g a ys))
-    (rows_alike g (numbers_at g a xs))
-    (alike-filter (names_row g) (numbers_at g a xs) (numbers_at g a ys) (alike-map (number_at g a) xs ys h))
-
-pub places_alike : (g : Ground) (arrays : List ℕ) → AreAlike (few_places g arrays) (element_places g arrays)
-places_alike g [] = λ p. refl
-places_alike g (a ∷ around) =
-    let few = few_rows g a around in
-    let all = filter (names_row g) (numbers_at g a (element_places g around)) in
-    alike-flat_map
-    (elements_of g)
-    (read_by g (extent g.leaves a) few)
-    (read_by g (extent g.leaves a) all)
-    (read_alike
-    g
-    (extent g.leaves a)
-    few
-    all
-    (rows_named_alike g a (few_places g around) (element_places g around) (places_alike g around)))
-
--- the rows of a leaf
-pub leaf_rows_alike : (g : Ground) (l : Leaf) → AreAlike (few_rows g l.entry l.arrays) (reached_through g l)
-leaf_rows_alike g l =
-    rows_named_alike g l.entry (few_places g l.arrays) (element_places g l.arrays) (places_alike g l.arrays)
-
--- a number is past the table's rows, as by the rule
-pub beyond_same : (g : Ground) (l : Leaf) → (few_through g l).beyond ≡ list_any (is_beyond g) (numbers_of g l)
-beyond_same g l =
-    alike_any
-    (is_beyond g)
-    (numbers_at g l.entry (few_places g l.arrays))
-    (numbers_of g l)
-    (alike-map (number_at g l.entry) (few_places g l.arrays) (element_places g l.arrays) (places_alike g l.arrays))
-
--- the rows of all leaves
-pub all_rows_alike : (g : Ground) (ls : List Leaf) → AreAlike (all_rows (map (few_through g) ls)) (flat_map (reached_through g) ls)
-all_rows_alike g [] = λ p. refl
-all_rows_alike g (l ∷ ls) =
-    alike-append
-    (few_rows g l.entry l.arrays)
-    (reached_through g l)
-    (all_rows (map (few_through g) ls))
-    (flat_map (reached_through g) ls)
-    (leaf_rows_alike g l)
-    (all_rows_alike g ls)
-
--- ---- they are equal, where no row is named twice
-
--- no row is reached twice through the leaf
-abbrev pub NamesOnce : Ground → Leaf → Type 0
-NamesOnce g l = (r : ℕ) → tally (is_it r) (reached_through g l) ≤ 1
-
-abbrev pub IsExact : Ground → Leaf → Type 0
-IsExact g l = (few_rows g l.entry l.arrays ≡ reached_through g l) × (few_places g l.arrays ≡ element_places g l.arrays)
-
-leaf_exact : (g : Ground) (l : Leaf) → NamesOnce g l → few_places g l.arrays ≡ element_places g l.arrays → few_rows g l.entry l.arrays ≡ reached_through g l
-leaf_exact g l once same =
-    ap (λ ps. rows_of g (numbers_at g l.entry ps)) same ∙ rows_exact g (numbers_of g l) once
-
-mutual
-  pub shape_exact : (g : Ground) (s : Shape) (i : ℕ) (arrays : List ℕ) → few_places g arrays ≡ element_places g arrays → Each (NamesOnce g) (arrays_among (leaves_in g.memory.entries s i arrays)) → Each (IsExact g) (arrays_among (leaves_in g.memory.entries s i arrays))
-  shape_exact g Void i arrays same once = tt
-  shape_exact g (Number k) i arrays same once = tt
-  shape_exact g (Array n s) i arrays same once =
-      let l = leaf_in g.memory.entries (Array n s) i arrays in
-      let rows : few_rows g i arrays ≡ reached_through g l = leaf_exact g l once.0 same in (
-        (rows, same),
-        shape_exact g s (i + 1) (i ∷ arrays) (ap (λ rs. flat_map (elements_of g) (read_by g (extent g.leaves i) rs)) rows) once.1,
-      )
-  shape_exact g (Cluster ss) i arrays same once = members_exact g ss (i + 1) arrays same once
-  shape_exact g Mutex i arrays same once = tt
-
-  pub members_exact : (g : Ground) (ss : Members) (i : ℕ) (arrays : List ℕ) → few_places g arrays ≡ element_places g arrays → Each (NamesOnce g) (arrays_among (leaves_among g.memory.entries ss i arrays)) → Each (IsExact g) (arrays_among (leaves_among g.memory.entries ss i arrays))
-  members_exact g no_members i arrays same once = tt
-  members_exact g (member s ss) i arrays same once =
-      let here = leaves_in g.memory.entries s i arrays in
-      let rest = leaves_among g.memory.entries ss (i + size s) arrays in
-      let both : arrays_among (here ++ rest) ≡ arrays_among here ++ arrays_among rest = filter-append (λ l. is_array l.shape) here rest in
-      let two = each_apart (NamesOnce g) (arrays_among here) (arrays_among rest) (subst (Each (NamesOnce g)) both once) in
-      subst
-      (Each (IsExact g))
-      (sym both)
-      (each_join
-      (IsExact g)
-      (arrays_among here)
-      (arrays_among rest)
-      (shape_exact g s i arrays same two.0)
-      (members_exact g ss (i + size s) arrays same two.1))
+pub rows_of_leaves : (g : Ground) (ls : List Leaf) → all_rows (map (through_leaf g) ls) ≡ flat_map (reached_through g) ls
+rows_of_leaves g ls = flat_map-map (λ t. t.rows) (through_leaf g) ls

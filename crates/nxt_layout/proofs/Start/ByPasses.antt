@@ -1,5 +1,5 @@
 -- Where no rule of rows is broken, the passes tell the size of the start and the strides of the lists.
-use Rattle.std.proofs.Common.{◌≡◌, ℕ, ◌+◌, ◌*◌, ◌≤◌, Bool, true, List, [], ◌∷◌, map, flat_map, find, max, sum_by, length, Some, if◌then◌else◌, refl, sym, ap, ap₂, ◌∙◌, subst, arith}
+use Rattle.std.proofs.Common.{◌≡◌, ℕ, ◌+◌, ◌*◌, Bool, true, List, [], ◌∷◌, map, max, sum_by, length, Some, if◌then◌else◌, refl, sym, ap, ap₂, ◌∙◌, subst, arith}
 use Rattle.std.specs.Prelude.{slice_index}
 use Rattle.std.proofs.lemmas.List.Sums.{sum_by-cons}
 use Rattle.nxt_types.specs.Shapes.{Members}
@@ -9,9 +9,9 @@ use Rattle.nxt_types.specs.Pool.{round4}
 use Rattle.nxt_model.specs.Reading.{Memory, row_count}
 use Rattle.nxt_table.specs.declared.fault.TableFault.TheVariants.{Place}
 use Rattle.nxt_layout.specs.declared.fault.LayoutFault.TheVariants.{Table}
-use Rattle.nxt_table.specs.Leaves.{Leaf, AreShapes, leaves, leaf_of, extent}
+use Rattle.nxt_table.specs.Leaves.{Leaf, AreShapes, leaves, leaf_of}
 use Rattle.nxt_layout.specs.Start.{memory, ground, stride_of, stride_through, file_rows}
-use Rattle.nxt_layout.specs.Rows.{Ground, has_elements, stride_or, is_array, numbers_of, reached_through, arrays_of, is_full_in, is_full}
+use Rattle.nxt_layout.specs.Rows.{Ground, is_array, numbers_of, arrays_of, is_full_in, is_full}
 use Rattle.nxt_layout.specs.Inside.RowPasses.{Through, all_rows, list_count, row_bytes, full_bytes, stride_in, HaveStrides}
 use Rattle.nxt_table.specs.Strides.{all_with_strides}
 use Rattle.nxt_layout.specs.LayoutRules.{Broken}
@@ -19,7 +19,6 @@ use Rattle.nxt_layout.specs.Layouts.{FileLayout, layout_of}
 use Rattle.nxt_layout.specs.Inside.Passes.{ground_in, arrays_in, rows_in_file, size_of_start}
 use Rattle.nxt_table.specs.Inside.Checks.{bytes_of_parts}
 use Rattle.nxt_facts.proofs.Each.{Each, each_then, each_filter}
-use Rattle.nxt_facts.proofs.Sums.{tally, tally-append, is_it}
 use Rattle.nxt_facts.proofs.SumsBelow.{sums_same}
 use Rattle.nxt_layout.proofs.Start.Leaves.{leaves_among}
 use Rattle.nxt_layout.proofs.Start.ValueAt.{values_among}
@@ -28,44 +27,25 @@ use Rattle.nxt_layout.proofs.Dope.Counts.{arrays_among}
 use Rattle.nxt_layout.proofs.Start.SameStrides.{same_strides}
 use Rattle.nxt_table.proofs.Laws.StrideFree.{size_of_table}
 use Rattle.nxt_layout.proofs.Laws.OneStart.{memory_with_strides}
-use Rattle.nxt_layout.proofs.Start.RulesKept.{KeepsRows, are_kept, reached_once}
+use Rattle.nxt_layout.proofs.Start.RulesKept.{KeepsRows}
 use Rattle.nxt_table.proofs.Laws.Dataspace.{same_dataspace}
 use Rattle.nxt_layout.proofs.Start.Size.{start_bytes, start_size, rows_with_strides}
 use Rattle.nxt_layout.proofs.Start.SizeByRows.{start_by_row, numbers_in_places}
-use Rattle.nxt_layout.proofs.Dope.Reached.{few_through, NamesOnce, IsExact, members_exact}
+use Rattle.nxt_layout.proofs.Dope.Reached.{through_leaf}
 use Rattle.nxt_layout.proofs.Dope.Scanned.{bare}
-use Rattle.nxt_layout.proofs.Rules.Rows.{arrays_same, few, same_ground, same_arrays, full_same}
-
--- ---- exactly what is reached
-
-names_once : (g : Ground) (ls : List Leaf) → ((r : ℕ) → tally (is_it r) (flat_map (reached_through g) ls) ≤ 1) → Each (NamesOnce g) ls
-names_once g [] once = tt
-names_once g (l ∷ ls) once =
-    let parts = λ (r : ℕ). tally-append (is_it r) (reached_through g l) (flat_map (reached_through g) ls) in
-    (λ r. omega (arith, once r, parts r), names_once g ls (λ r. omega (arith, once r, parts r)))
-
-arrays_exact : (p : Parts) (plain : Members) → AreShapes p.toc plain → KeepsRows p → Each (IsExact (ground p plain)) (arrays_of (ground p plain))
-arrays_exact p plain shapes rules =
-    let g = ground p plain in
-    let order : leaves p.toc plain ≡ leaves_among p.toc plain 0 [] = leaves_are p.toc plain (size_of_table p.toc plain shapes.spelled) in
-    let once = names_once g (arrays_of g) (reached_once g (are_kept p plain shapes order rules)) in
-    subst
-    (λ ls. Each (IsExact g) (arrays_among ls))
-    (sym order)
-    (members_exact g plain 0 [] refl (subst (λ ls. Each (NamesOnce g) (arrays_among ls)) order once))
+use Rattle.nxt_layout.proofs.Rules.Rows.{arrays_same, found, same_ground, same_arrays, full_same}
 
 -- ---- the size
 
-lists_counted : (g : Ground) (ls : List Leaf) → Each (IsExact g) ls → list_count (map (few_through g) ls) ≡ sum_by (λ l. length (numbers_of g l)) ls
-lists_counted g [] exact = refl
-lists_counted g (l ∷ ls) exact =
+lists_counted : (g : Ground) (ls : List Leaf) → list_count (map (through_leaf g) ls) ≡ sum_by (λ l. length (numbers_of g l)) ls
+lists_counted g [] = refl
+lists_counted g (l ∷ ls) =
     omega (
       arith,
-      sum_by-cons (λ (t : Through). t.lists) (few_through g l) (map (few_through g) ls),
+      sum_by-cons (λ (t : Through). t.lists) (through_leaf g l) (map (through_leaf g) ls),
       sum_by-cons (λ l. length (numbers_of g l)) l ls,
       numbers_in_places g l,
-      ap length exact.0.1,
-      lists_counted g ls exact.1,
+      lists_counted g ls,
     )
 
 rows_same : (p : Parts) (plain : Members) → AreShapes p.toc plain → rows_in_file p ≡ file_rows p plain
@@ -75,10 +55,10 @@ rows_same p plain shapes =
     (arrays_same p.toc plain shapes)
     (same_ground p plain shapes)
 
-full_bytes_same : (g : Ground) → full_bytes g (is_full_in g (all_rows (few g))) ≡ full_bytes g (is_full g)
+full_bytes_same : (g : Ground) → full_bytes g (is_full_in g (all_rows (found g))) ≡ full_bytes g (is_full g)
 full_bytes_same g =
     sums_same
-    (λ r. if is_full_in g (all_rows (few g)) r then row_bytes g r else 0)
+    (λ r. if is_full_in g (all_rows (found g)) r then row_bytes g r else 0)
     (λ r. if is_full g r then row_bytes g r else 0)
     (row_count g.memory)
     (λ r less. ap (λ b. if b then row_bytes g r else 0) (full_same g r))
@@ -95,20 +75,18 @@ size_same p plain shapes rules =
     (λ (k : Ground) (ts : List Through). sized p (file_rows p plain) (list_count ts) (full_bytes k (is_full_in k (all_rows ts))))
     (same_ground p plain shapes)
     (same_arrays p plain shapes)
-    ∙ ap₂ (sized p (file_rows p plain)) (lists_counted g (arrays_of g) (arrays_exact p plain shapes rules)) (full_bytes_same g)
+    ∙ ap₂ (sized p (file_rows p plain)) (lists_counted g (arrays_of g)) (full_bytes_same g)
     ∙ sym (start_by_row p plain shapes rules)
 
 -- ---- the strides
 
-stride_found : (g : Ground) (l : Leaf) → IsExact g l → leaf_of g.leaves l.entry ≡ Some l → stride_in g (few_through g l) ≡ stride_of g l.entry
-stride_found g l exact found =
-    ap (λ rows. stride_or g (extent g.leaves l.entry) (find (has_elements g) rows)) exact.0
-    ∙ sym (ap (stride_through g) found)
+stride_found : (g : Ground) (l : Leaf) → leaf_of g.leaves l.entry ≡ Some l → stride_in g (through_leaf g l) ≡ stride_of g l.entry
+stride_found g l found = sym (ap (stride_through g) found)
 
-strides_agree : (g : Ground) (strides : List ℕ) (ls : List Leaf) → Each (IsExact g) ls → Each (λ l. leaf_of g.leaves l.entry ≡ Some l) ls → HaveStrides (bare g) strides (map (few_through g) ls) → Each (λ l. slice_index strides l.entry ≡ stride_of g l.entry) ls
-strides_agree g strides [] exact found have = tt
-strides_agree g strides (l ∷ ls) exact found have =
-    (have.0 ∙ stride_found g l exact.0 found.0, strides_agree g strides ls exact.1 found.1 have.1)
+strides_agree : (g : Ground) (strides : List ℕ) (ls : List Leaf) → Each (λ l. leaf_of g.leaves l.entry ≡ Some l) ls → HaveStrides (bare g) strides (map (through_leaf g) ls) → Each (λ l. slice_index strides l.entry ≡ stride_of g l.entry) ls
+strides_agree g strides [] found have = tt
+strides_agree g strides (l ∷ ls) found have =
+    (have.0 ∙ stride_found g l found.0, strides_agree g strides ls found.1 have.1)
 
 arrays_found : (p : Parts) (plain : Members) → Each (λ l. leaf_of (leaves p.toc plain) l.entry ≡ Some l) (arrays_of (ground p plain))
 arrays_found p plain =
@@ -123,14 +101,14 @@ shapes_same : (p : Parts) (plain : Members) → AreShapes p.toc plain → KeepsR
 shapes_same p plain shapes rules strides have =
     let g = ground p plain in
     let order : leaves p.toc plain ≡ leaves_among p.toc plain 0 [] = leaves_are p.toc plain (size_of_table p.toc plain shapes.spelled) in
-    let found : HaveStrides (bare g) strides (few g) =
+    let have_them : HaveStrides (bare g) strides (found g) =
     subst
     (HaveStrides (bare g) strides)
     (same_arrays p plain shapes)
     (subst (λ k. HaveStrides k strides (arrays_in p)) (same_ground p plain shapes) have)
     in
     let agree : Each (λ l. slice_index strides l.entry ≡ stride_of g l.entry) (arrays_of g) =
-    strides_agree g strides (arrays_of g) (arrays_exact p plain shapes rules) (arrays_found p plain) found in
+    strides_agree g strides (arrays_of g) (arrays_found p plain) have_them in
     same_strides
     p.toc
     (slice_index strides)

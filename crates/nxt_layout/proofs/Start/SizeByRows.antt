@@ -17,8 +17,7 @@ use Rattle.nxt_facts.proofs.Sums.{total, total_is, total_one, total_flat, total_
 use Rattle.nxt_facts.proofs.SumsBelow.{sums_same, once_below}
 use Rattle.nxt_layout.proofs.Start.ValueAt.{number_at}
 use Rattle.nxt_facts.proofs.Places.{length-places}
-use Rattle.nxt_layout.proofs.Start.Leaves.{leaves_among, HasFairRows}
-use Rattle.nxt_layout.proofs.Start.Reads.{all_read}
+use Rattle.nxt_layout.proofs.Start.Leaves.{leaves_among}
 use Rattle.nxt_layout.proofs.Start.LeafOrder.{leaves_are}
 use Rattle.nxt_table.proofs.Laws.StrideFree.{size_of_table}
 use Rattle.nxt_layout.proofs.Start.RulesKept.{AreKept, KeepsRows, are_kept, reached_once}
@@ -33,17 +32,6 @@ numbers_by_array g =
     ∙ total_every (λ l. total (λ r. 1) (numbers_of g l)) (λ l. length (numbers_of g l)) (λ l. total_one (numbers_of g l)) (arrays_of g)
     ∙ sym (total_is (λ l. length (numbers_of g l)) (arrays_of g))
 
-pub bytes_by_array : (g : Ground) → sum_by (row_bytes g) (reached g) ≡ sum_by (λ l. sum_by (row_bytes g) (reached_through g l)) (arrays_of g)
-bytes_by_array g =
-    total_is (row_bytes g) (reached g)
-    ∙ total_flat (row_bytes g) (reached_through g) (arrays_of g)
-    ∙ total_every
-    (λ l. total (row_bytes g) (reached_through g l))
-    (λ l. sum_by (row_bytes g) (reached_through g l))
-    (λ l. sym (total_is (row_bytes g) (reached_through g l)))
-    (arrays_of g)
-    ∙ sym (total_is (λ l. sum_by (row_bytes g) (reached_through g l)) (arrays_of g))
-
 -- an entry stands once in each element around it
 pub numbers_in_places : (g : Ground) (l : Leaf) → length (numbers_of g l) ≡ length (element_places g l.arrays)
 numbers_in_places g l = length-map (element_places g l.arrays) (number_at g l.entry)
@@ -57,13 +45,6 @@ elements_counted g (r ∷ rows) =
       length-places (row g r).place (row g r).stride (row g r).count,
       elements_counted g rows,
     )
-
--- the elements of an array's lists
-pub places_by_row : (g : Ground) (l : Leaf) → HasFairRows g l → length (element_places g (l.entry ∷ l.arrays)) ≡ sum_by (λ r. (row g r).count) (reached_through g l)
-places_by_row g l rows =
-    ap length (all_read g l rows)
-    ∙ elements_counted g (reached_through g l)
-    ∙ sym (total_is (λ r. (row g r).count) (reached_through g l))
 
 -- ---- and by row of the table
 

@@ -1,10 +1,11 @@
--- The lists so far, and those of the arrays that are left.
-use Rattle.std.proofs.Common.{◌≡◌, ◌≤◌, ◌+◌, ◌*◌, ◌^◌, drop, map}
-use Rattle.nxt_layout.specs.Inside.RowPasses.{through, list_count}
+-- The lists of the arrays so far.
+use Rattle.std.proofs.Common.{◌≡◌, ◌≤◌, ◌*◌, ◌^◌, take}
+use Rattle.nxt_layout.specs.Inside.RowPasses.{ground_of, list_count}
+use Rattle.nxt_layout.specs.Inside.Nested.{throughs}
 use Rattle.nxt_layout.proofs.rows.lists_of.Given as goal
 
 abbrev pub invariant-loop-array : goal.invariant-loop-array
 invariant-loop-array l = record {
-  same : l.lists + list_count (map through (drop l.array-index l.arrays)) ≡ list_count (map through l.arrays);
-  bound : l.lists ≤ 2 ^ 33 * l.array-index;
+  sum : l.lists ≡ list_count (take l.array-index (throughs (ground_of l.space) l.arrays));
+  bound : l.lists ≤ 2 ^ 32 * l.array-index;
 }

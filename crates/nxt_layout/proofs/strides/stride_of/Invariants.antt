@@ -1,9 +1,0 @@
--- No row so far has elements.
-use Rattle.std.proofs.Common.{◌≡◌, drop, find}
-use Rattle.std.specs.Rc.{rc_slice_items}
-use Rattle.nxt_layout.specs.Rows.{has_elements}
-use Rattle.nxt_layout.specs.Inside.RowPasses.{ground_of}
-use Rattle.nxt_layout.proofs.strides.stride_of.Given as goal
-
-abbrev pub invariant-loop-row : goal.invariant-loop-row
-invariant-loop-row l = find (has_elements (ground_of l.space)) (rc_slice_items l.array.rows) ≡ find (has_elements (ground_of l.space)) (drop l.row-index (rc_slice_items l.array.rows))
