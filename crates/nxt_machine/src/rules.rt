@@ -1,11 +1,11 @@
 // What a statement does to clumps.
 
-ghost use Rattle.std.specs.Prelude.{◌≡◌, ◌<◌, ◌≤◌, ◌^◌, ℕ, slice_get, Some, None, Result, OnOk, IsSome};
+ghost use Rattle.std.specs.Prelude.{◌≡◌, ◌<◌, ◌≤◌, ◌^◌, ℕ, slice_get, Some, IsSome};
+ghost use Rattle.std.specs.Result.{result_err};
 ghost use Rattle.nxt_types.specs.Statements.{statement_of};
 ghost use Rattle.nxt_model.specs.Clumps.{wait};
 ghost use Rattle.nxt_types.specs.declared.instr.Op.TheVariants as op;
 ghost use Rattle.nxt_space.specs.Keeping.{TableStays};
-ghost use Rattle.nxt_clumps.specs.Answers.{stop_of as stop_for, stop_in as stop_told};
 ghost use Rattle.nxt_clumps.specs.Clumps.{head};
 ghost use Rattle.nxt_machine.specs.Inside.Programs.{IsProgram, AreClumpsOf, image_in};
 ghost use Rattle.nxt_machine.specs.Inside.Statements.{IsRuled, GoesOn, end_of as end_for};
@@ -14,22 +14,27 @@ ghost use Rattle.nxt_machine.specs.Inside.Stopping.{may_stop as may_stop_by};
 use crate::naming::{number, stops};
 use crate::program::Program;
 use crate::statement::Did;
-use nxt_clumps::{ClumpFault, Clumps};
+use nxt_clumps::Clumps;
 use nxt_code::StatementAt;
 use nxt_model::line::Stop;
 use nxt_space::Space;
 use nxt_types::instr::{Instr, Op};
 use nxt_types::numbers::wrap;
 
-// Does to clumps what a statement of the clump that runs says, and gives the reason for which the program stops there, if it
-// does.
-fn rule(program: &mut Program, clumps: &mut Clumps, clock: u64, h: u8, i: &Instr) -> Option<Stop>
+// Does to clumps what a statement of the clump that runs says. An `Err` is the reason for which the program stops there.
+fn rule(
+    program: &mut Program,
+    clumps: &mut Clumps,
+    clock: u64,
+    h: u8,
+    i: &Instr,
+) -> Result<(), Stop>
     requires program { IsProgram program.old }
     requires clumps { AreClumpsOf program.old clumps.old }
     requires head { slice_get clumps.old.state.queue 0 ≡ Some h }
     requires clock { clock ≤ 2 ^ 62 }
     requires at { (k word : ℕ) × slice_get program.old.code.decoded.placed.items k ≡ Some (record { word = word; instr = i.now }) }
-    ensures ruled { IsRuled clock h (statement_of i.now program.old.code.words) program.old.space.vars program.new.space.vars clumps.old clumps.new result }
+    ensures ruled { IsRuled clock h (statement_of i.now program.old.code.words) program.old.space.vars program.new.space.vars clumps.old clumps.new (result_err result) }
     ensures program { IsProgram program.new }
     ensures stays { TableStays program.old.space program.new.space }
     ensures image { image_in program.new ≡ image_in program.old }
@@ -40,47 +45,38 @@ fn rule(program: &mut Program, clumps: &mut Clumps, clock: u64, h: u8, i: &Instr
     match i.op {
         Op::Stop => {
             if stops(&program.space, i.a) {
-                Some(Stop::Stopped)
-            } else {
-                None
+                return Err(Stop::Stopped);
             }
         }
-        Op::Finclump => stop_of(clumps.finish(i.a.cast_signed(), i.b.cast_signed())),
-        Op::Finclumpimmed => stop_of(clumps.schedule(i.a as u8)),
-        Op::Acquire => {
-            clumps.acquire(i.a);
-            None
-        }
-        Op::Release => stop_of(clumps.release(i.a)),
-        Op::Subcall => call(program, clumps, h, i),
-        Op::Subret => stop_of(clumps.ret(wrap(number(&program.space, i.a)))),
-        Op::Wait => {
-            wait(clumps, clock, wrap(number(&program.space, i.a)));
-            None
-        }
-        _ => None,
+        Op::Finclump => clumps.finish(i.a.cast_signed(), i.b.cast_signed())?,
+        Op::Finclumpimmed => clumps.schedule(i.a as u8)?,
+        Op::Acquire => clumps.acquire(i.a),
+        Op::Release => clumps.release(i.a)?,
+        Op::Subcall => call(program, clumps, h, i)?,
+        Op::Subret => clumps.ret(wrap(number(&program.space, i.a)))?,
+        Op::Wait => wait(clumps, clock, wrap(number(&program.space, i.a))),
+        _ => {}
     }
+    Ok(())
 }
 
 // The clump that runs calls another one, which is told its number in a variable.
-fn call(program: &mut Program, clumps: &mut Clumps, h: u8, i: &Instr) -> Option<Stop>
+fn call(program: &mut Program, clumps: &mut Clumps, h: u8, i: &Instr) -> Result<(), Stop>
     requires program { IsProgram program.old }
     requires clumps { AreClumpsOf program.old clumps.old }
     requires head { slice_get clumps.old.state.queue 0 ≡ Some h }
     requires call { i.now.op ≡ op.Subcall }
     requires at { (k word : ℕ) × slice_get program.old.code.decoded.placed.items k ≡ Some (record { word = word; instr = i.now }) }
-    ensures ruled { (clock : ℕ) → IsRuled clock h (statement_of i.now program.old.code.words) program.old.space.vars program.new.space.vars clumps.old clumps.new result }
+    ensures ruled { (clock : ℕ) → IsRuled clock h (statement_of i.now program.old.code.words) program.old.space.vars program.new.space.vars clumps.old clumps.new (result_err result) }
     ensures program { IsProgram program.new }
     ensures stays { TableStays program.old.space program.new.space }
     ensures image { image_in program.new ≡ image_in program.old }
     ensures code { program.new.code ≡ program.old.code }
 {
     clumps.is_sound();
-    if let Err(fault) = clumps.call(i.a as u8) {
-        return Some(stop_in(fault));
-    }
+    clumps.call(i.a as u8)?;
     program.space.set(i.b, i64::from(h));
-    None
+    Ok(())
 }
 
 // The clump that runs sleeps so many ms, or goes to the queue's end.
@@ -93,27 +89,6 @@ fn wait(clumps: &mut Clumps, clock: u64, ms: u32)
         clumps.rotate();
     } else {
         clumps.sleep(clock + u64::from(ms));
-    }
-}
-
-// The reason for which the program stops.
-fn stop_in(fault: ClumpFault) -> Stop
-    ensures { result ≡ stop_for fault }
-{
-    match fault {
-        ClumpFault::Active(c) => Stop::Active(c),
-        ClumpFault::NotOwner(m) => Stop::NotOwner(m),
-        ClumpFault::NoCaller(n) => Stop::NoCaller(n),
-    }
-}
-
-// The reason for which the program stops, if it does.
-fn stop_of(ruled: Result<(), ClumpFault>) -> Option<Stop>
-    ensures { result ≡ stop_told ruled }
-{
-    match ruled {
-        Ok(()) => None,
-        Err(fault) => Some(stop_in(fault)),
     }
 }
 
@@ -144,7 +119,7 @@ pub(crate) fn go_on(
     match did {
         Did::Next(next) => {
             clumps.advance(next, 1);
-            let why = rule(program, clumps, clock, h, &placed.instr);
+            let why = rule(program, clumps, clock, h, &placed.instr).err();
             clumps.end_bytecode();
             why
         }

@@ -43,7 +43,7 @@ returns-clause-ruled c clock =
     call_ruled clock c.args.h c.args.i.now p.code.words p.space.vars c.args.clumps.now c.call.new.self None c.call.result c.set.new.self.vars _ c.requires.call c.requires.head
     (caller p c.requires.program c.args.i.now c.requires.call at.0 at.1 at.2).named
     (to_z-of_z {w = w64} {z = c.from.result} (record { sfits = c.from.type_inv }) ∙ c.from.ensures)
-    c.call.ensures (ap stop_in c.in_default.is) refl c.set.ensures.value
+    c.call.ensures (ap stop_in c.in_ok-call.was) refl c.set.ensures.value
 
 pub returns-clause-program : goal.returns-clause-program
 returns-clause-program c = program_kept c.args.program.now c.set.new.self (subst (λ v. v ≡ record c.args.program.now.space.vars { values = v.values; rows = v.rows }) (sym c.set.ensures.value) refl) c.requires.program
