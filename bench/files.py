@@ -7,7 +7,9 @@ Two files have a table of 49,000 entries: they share no byte, or the last stands
 lists of a byte each: they share no byte, the last two share theirs, or all share one. In one lists stand eight deep, and each
 of 3,000 elements names the same next list. In seventeen clusters of lists stand in the elements of many rows, which are others
 in each cluster: long rows that end together, or short ones that lie anywhere. In two each list of thousands in lists is read
-in other rows. In the rest many variables or many rows name the same overlapping rows. Prints the seconds and the line of each.
+in other rows. In four thousands of lists in lists are read in rows of 64 strides, or each in thousands of rows of one element,
+at the same place in it or at other ones. In the rest many variables or many rows name the same overlapping rows. Prints the
+seconds and the line of each.
 """
 import os
 import struct
@@ -194,6 +196,46 @@ def chains_file(variables, depth, half):
     return rows_file(entries, range(1, variables + 1), rows, struct.pack("<%dH" % len(names), *names))
 
 
+def strides_file(variables, lists, least, each):
+    """Variables that all name one row, of clusters of so many lists in lists. The lists of one place in it name as many rows as
+    it has clusters, of a stride of their own among 64, so that lists that stand side by side are read in rows of other strides."""
+    inner = [entry for j in range(lists) for entry in nest(2, 2 * j)]
+    entries = [entry for i in range(variables) for entry in [(7, 2 * i), (8, lists)] + inner]
+    names = [2 + j % 64 * each + x for x in range(each) for j in range(lists)]
+    behind = 2 * len(names)
+    count = 65000 - 2 * variables - 10 * (64 * each + 2) - behind
+    starts = [(stride, stride * x // each) for stride in range(least, least + 64) for x in range(each)]
+    rows = [(0, 2 * lists, each)] + [(behind + at, stride, (count - at) // stride) for stride, at in starts]
+    return rows_file(entries, [1] * variables, rows, struct.pack("<%dH" % len(names), *names) + bytes(count))
+
+
+def table_file_of_rows(variables, rows):
+    """Variables eight deep that all name one row. Its elements, and the one element of each other row, are numbers in the table
+    of rows itself, so that each list is read in as many rows as there are."""
+    entries = sum((nest(8, 2 * i) for i in range(variables)), [])
+    static = 2 * variables
+    names = [(2 + (7 * r + 1) % (rows - 2), 2 + (11 * r + 5) % (rows - 2)) for r in range(rows)]
+    places = [(static, 10, rows), (static + 28, 10, rows - 3)] + [(static + 10 * r + 6, 2, 1) for r in range(2, rows)]
+    dynamic = b"".join(struct.pack("<5H", *place, *name) for place, name in zip(places, names))
+    size = static + len(dynamic)
+    words = jump(0)
+    head = b"MindstormsNXT\0\0\5" + struct.pack(
+        "<11H", len(entries), size, static, size, static, len(dynamic), 0, 0, static, 1, len(words) // 2
+    )
+    table = b"".join(struct.pack("<BBH", code, 0, place) for code, place in entries)
+    return head + table + struct.pack("<%dH" % variables, *[1] * variables) + dynamic + struct.pack("<BBH", 0, 0, 0) + words
+
+
+def offsets_file(variables, rows):
+    """Variables eight deep that all name one row, and through it each of the others, which have one element. The lists in lists
+    stand at one of 64 places in an element, others in each variable."""
+    inner = [[(7, 0)] + [(7, 2 * (i % 64))] * 6 + [(1, 0)] for i in range(variables)]
+    entries = [entry for i in range(variables) for entry in [(7, 2 * i)] + inner[i]]
+    places = [(0, 2, rows)] + [(2 * rows + 2 * r, 131, 1) for r in range(rows)]
+    names = list(range(2, rows + 2)) + [2 + (7 * r + 1) % rows for r in range(rows + 66)]
+    return rows_file(entries, [1] * variables, places, struct.pack("<%dH" % len(names), *names))
+
+
 FILES = (
     ("49,000 entries apart", table_file(ENTRIES - 1)),
     ("their last pair overlaps", table_file(ENTRIES - 2)),
@@ -238,6 +280,10 @@ FILES = (
     ("2,000 of 3 lists, three deep", members_file(2000, 3, 3000, 200, 2, 3)),
     ("2,000 chains, eight deep", chains_file(2000, 8, 400)),
     ("1,000 chains of more rows", chains_file(1000, 8, 1200)),
+    ("rows of 64 strides, six each", strides_file(53, 300, 16, 6)),
+    ("the same, 20 of each", strides_file(53, 300, 40, 20)),
+    ("5,400 rows in their own table", table_file_of_rows(5400, 5400)),
+    ("lists at 64 places", offsets_file(5300, 3800)),
 )
 
 
