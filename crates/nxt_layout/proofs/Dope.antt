@@ -24,6 +24,8 @@ pub mod Nesting
 pub mod Grouped
 -- Marks in lanes at the places of runs.
 pub mod Marks
+-- What turns in a lane, and its runs.
+pub mod Turns
 -- Marks that spreads make into others.
 pub mod Spreads
 -- What the numbers of lanes name, number by number.
@@ -32,6 +34,8 @@ pub mod Lanes
 pub mod Sites
 -- What the bits of a group's arrays tell, and the places of their elements.
 pub mod Told
+-- The numbers of a group's arrays, lane by lane.
+pub mod Put
 -- What all arrays of a table name, group by group.
 pub mod AllNames
 -- Which array names a row, where no row is named twice.

@@ -10,6 +10,8 @@ pub mod Lanes
 pub mod Runs
 -- Counts of 64 lanes, a bit of each in each word.
 pub mod Counts
+-- Places of elements by where they turn, for 64 lanes at once.
+pub mod Turns
 -- A sweep over the edges of rows: how many elements a lane has at a place, and its runs up to there.
 pub mod Sweeps
 -- The strides of an array's rows, row by row.
@@ -22,6 +24,8 @@ pub mod RowTables
 pub mod Marks
 -- The places at which the numbers of 64 arrays stand.
 pub mod Sites
+-- A lane before its turns are flipped.
+pub mod Prepared
 -- Which rows are named, how often, and by which array.
 pub mod Names
 -- The passes that find the first fault of the rows and of the pool.

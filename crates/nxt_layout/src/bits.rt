@@ -1,6 +1,6 @@
 // Bits of 64 lanes, each of which stands for an array.
 
-ghost use Rattle.std.specs.Prelude.{◌≡◌, ◌≢◌, ◌==◌, ℕ, ◌+◌, ◌%◌, ◌<◌, ◌≤◌, Bool, true, false, min, max};
+ghost use Rattle.std.specs.Prelude.{◌≡◌, ◌≢◌, ◌==◌, ℕ, ◌+◌, ◌%◌, ◌<◌, ◌≤◌, ◌⊎◌, Bool, true, false, min, max};
 ghost use Rattle.std.specs.Int.{bit_at};
 ghost use Rattle.nxt_layout.specs.Inside.Lanes.{Tells};
 ghost use Rattle.nxt_layout.specs.Inside.Marks.{mark, at_place};
@@ -47,6 +47,49 @@ impl Bits {
         ensures { result ≡ (bit_at self.once lane == 1) }
     {
         self.once >> lane & 1 == 1
+    }
+
+    /// Whether a lane is marked: of one or more, or of several.
+    pub fn is_marked(self, several: bool, lane: u32) -> bool
+        requires { lane < 64 }
+        ensures { result ≡ (mark several self lane == 1) }
+    {
+        let lanes = if several { self.twice } else { self.once };
+        lanes >> lane & 1 == 1
+    }
+
+    /// `count` lanes, from `from` on, as those from `to` on.
+    pub fn moved(self, from: u32, to: u32, count: u32) -> Bits
+        requires some { 0 < count }
+        requires from { from + count ≤ 64 }
+        requires to { to + count ≤ 64 }
+        ensures moved { (t : Bool) (i : ℕ) → i < count → mark t result (to + i) ≡ mark t self (from + i) }
+        ensures others { (t : Bool) (k : ℕ) → k < 64 → (k < to) ⊎ (to + count ≤ k) → mark t result k ≡ 0 }
+    {
+        if from == to {
+            return self.only(u64::MAX >> (64 - count) << to);
+        }
+        if count == 1 {
+            return self.carried(from, to);
+        }
+        let lanes = u64::MAX >> (64 - count);
+        Bits {
+            once: (self.once >> from & lanes) << to,
+            twice: (self.twice >> from & lanes) << to,
+        }
+    }
+
+    // A lane, as another one.
+    fn carried(self, from: u32, to: u32) -> Bits
+        requires from { from < 64 }
+        requires to { to < 64 }
+        ensures carried { (t : Bool) → mark t result to ≡ mark t self from }
+        ensures others { (t : Bool) (k : ℕ) → k < 64 → k ≢ to → mark t result k ≡ 0 }
+    {
+        Bits {
+            once: lane_where(self.is_marked(false, from), to),
+            twice: lane_where(self.is_marked(true, from), to),
+        }
     }
 
     /// None, one or two in a lane.
@@ -99,4 +142,13 @@ impl Bits {
             twice: self.twice & lanes,
         }
     }
+}
+
+// A lane where it is marked, and none where not.
+fn lane_where(marked: bool, lane: u32) -> u64
+    requires { lane < 64 }
+    ensures here { marked ≡ true → (k : ℕ) → bit_at result k ≡ at_place lane k }
+    ensures none { marked ≡ false → (k : ℕ) → bit_at result k ≡ 0 }
+{
+    if marked { 1 << lane } else { 0 }
 }

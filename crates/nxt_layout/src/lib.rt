@@ -20,6 +20,7 @@ mod sites;
 mod spans;
 mod sweep;
 mod table_rows;
+mod turns;
 
 pub use fault::LayoutFault;
 pub use layout::{Layout, check_layout};

@@ -1,6 +1,6 @@
 // Which rows are named, how often, and by which array.
 
-ghost use Rattle.std.specs.Prelude.{◌≡◌, ◌≢◌, ℕ, List, [], ◌+◌, ◌++◌, ◌<◌, ◌≤◌, ◌^◌, All, None, Some, length, slice_get, slice_index, IfOk, OnOk, if◌then◌else◌, ◌⊎◌, ◌∷◌, min, IfSome, IsTrue};
+ghost use Rattle.std.specs.Prelude.{◌≡◌, ◌≢◌, ℕ, List, [], ◌+◌, ◌++◌, ◌<◌, ◌≤◌, ◌^◌, All, None, Some, length, slice_get, slice_index, IfOk, OnOk, if◌then◌else◌, ◌⊎◌, ◌∷◌, min, true, IfSome, IsTrue};
 ghost use Rattle.std.specs.Int.{bit_at};
 ghost use Rattle.nxt_model.specs.Reading.{row_count};
 ghost use Rattle.nxt_layout.specs.Rows.{Ground};
@@ -9,15 +9,16 @@ ghost use Rattle.nxt_layout.specs.Inside.Lanes.{Tells};
 ghost use Rattle.nxt_layout.specs.declared.nested.NestedArray.{NestedArray as nested_array};
 ghost use Rattle.nxt_layout.specs.Inside.Runs.{AreRuns};
 ghost use Rattle.nxt_layout.specs.Inside.Nested.{AreNested, AreGroups, IsSpot, bases_in, group_of, through_at, throughs};
-ghost use Rattle.nxt_layout.specs.Inside.Sites.{StandAt};
-ghost use Rattle.nxt_layout.specs.Inside.Names.{AreAllNames, AreNames, AreTold, IsAround, IsFirstBeyond, IsMarkedRow, IsNaming};
+ghost use Rattle.nxt_layout.specs.Inside.Sites.{StandAt, IsFree, IsSameLane};
+ghost use Rattle.nxt_layout.specs.Inside.Names.{AreAllNames, AreNames, AreTold, IsAround, IsBehind, IsFirstBeyond, IsMarkedRow, IsNaming};
 
 use crate::bits::Bits;
 use crate::dataspace::Dataspace;
-use crate::nested::{Groups, NestedArray, groups_of};
+use crate::nested::{Groups, NestedArray, Spot, groups_of};
 use crate::row_table::RowTable;
 use crate::runs::Runs;
 use crate::sites::Sites;
+use crate::turns::{Block, Turns};
 use nxt_types::NoMemory;
 use std::alloc::Global;
 
@@ -166,7 +167,7 @@ struct Naming {
 struct Around {
     outside: Runs,
     group: Option<usize>,
-    runs: Vec<Runs>,
+    turns: Turns,
 }
 
 impl Naming {
@@ -204,43 +205,94 @@ impl Naming {
         ensures told { IfOk result (λ named. AreTold (ground_of space.now) (throughs (ground_of space.now) arrays.now) (group_of self.now.groups group) named.items) }
     {
         let mut sites = Sites::none(alloc, space.bytes.len())?;
-        for (lane, array) in self.groups.arrays(group).iter().enumerate() {
-            let array = &arrays[*array as usize];
-            self.put(alloc, arrays, around, &mut sites, lane as u32, array)?;
+        let lanes = self.groups.arrays(group);
+        let mut done: usize = 0;
+        for lane in 0..lanes.len() {
+            if done == lane {
+                done += self.put(alloc, arrays, around, &mut sites, lanes, lane)?;
+            }
         }
         sites.named(alloc, space)
     }
 
-    // Puts the numbers of an array into a lane.
+    // Puts the numbers of the array in a lane there, and of those behind it whose numbers are found alike, and gives how many
+    // these are.
     fn put(
         &self,
         alloc: Global,
         arrays: &[NestedArray],
         around: &mut Around,
         sites: &mut Sites,
-        lane: u32,
-        array: &NestedArray,
-    ) -> Result<(), NoMemory>
+        lanes: &[u32],
+        lane: usize,
+    ) -> Result<usize, NoMemory>
         requires nested { AreNested arrays.now }
         requires known { (g : Ground) × IsNaming g arrays.now self.now × IsAround g arrays.now self.now around.old }
         requires groups { length self.now.named.items ≤ length self.now.groups.starts.items }
-        requires lane { lane < 64 }
-        requires free { (c : ℕ) → StandAt lane c [] sites.old }
-        requires array { (i : ℕ) × (slice_get arrays.now i ≡ Some array.now) }
-        requires spot { (j : ℕ) → array.now.around ≡ Some j → IsSpot self.now.groups (length self.now.named.items) j }
+        requires few { length lanes.now ≤ 64 }
+        requires inside { All (λ i. i < length arrays.now) lanes.now }
+        requires lane { lane < length lanes.now }
+        requires free { (k : ℕ) → lane ≤ k → k < 64 → IsFree k sites.old }
+        requires spots { (k i j : ℕ) (a : nested_array) → slice_get lanes.now k ≡ Some i → slice_get arrays.now i ≡ Some a → a.around ≡ Some j → IsSpot self.now.groups (length self.now.named.items) j }
         ensures around { (g : Ground) → IsNaming g arrays.now self.now → IsAround g arrays.now self.now around.old → OnOk result (IsAround g arrays.now self.now around.new) }
         ensures size { OnOk result (length sites.new.here.items ≡ length sites.old.here.items) }
-        ensures lane { (g : Ground) → IsNaming g arrays.now self.now → IsAround g arrays.now self.now around.old → OnOk result (StandAt lane array.now.place (bases_in g (throughs g arrays.now) array.now.around) sites.new) }
-        ensures others { (k c : ℕ) (bases : List ℕ) → k < 64 → k ≢ lane → StandAt k c bases sites.old → OnOk result (StandAt k c bases sites.new) }
+        ensures count { IfOk result (λ count. (0 < count) × (lane + count ≤ length lanes.now)) }
+        ensures lanes { (g : Ground) → IsNaming g arrays.now self.now → IsAround g arrays.now self.now around.old → IfOk result (λ count. (k i : ℕ) (a : nested_array) → lane ≤ k → k < lane + count → slice_get lanes.now k ≡ Some i → slice_get arrays.now i ≡ Some a → StandAt k a.place (bases_in g (throughs g arrays.now) a.around) sites.new) }
+        ensures others { IfOk result (λ count. (k : ℕ) → k < 64 → (k < lane) ⊎ (lane + count ≤ k) → IsSameLane k sites.old sites.new) }
     {
-        match array.around {
-            None => sites.add(lane, &around.outside, array.place),
-            Some(outer) => {
-                let spot = self.groups.spots[outer as usize];
-                self.find(alloc, arrays, around, spot.group)?;
-                sites.add(lane, &around.runs[spot.lane], array.place)
+        let array = &arrays[lanes[lane] as usize];
+        let Some(outer) = array.around else {
+            sites.fill(lane as u32, &around.outside, array.place);
+            return Ok(1);
+        };
+        let spot = self.groups.spots[outer as usize];
+        self.find(alloc, arrays, around, spot.group)?;
+        let count = self.count_in_turn(arrays, lanes, lane, spot);
+        let places = places_of(alloc, arrays, lanes, lane, count)?;
+        let block = Block {
+            from: spot.lane as u32,
+            to: lane as u32,
+            count: count as u32,
+        };
+        sites.add(alloc, &around.turns, block, places.as_slice())?;
+        Ok(count)
+    }
+
+    // How many of the arrays from a lane on stand in elements that are read through the array in this spot and those in the
+    // spots behind it.
+    fn count_in_turn(&self, arrays: &[NestedArray], lanes: &[u32], lane: usize, spot: Spot) -> usize
+        requires inside { All (λ i. i < length arrays.now) lanes.now }
+        requires spots { (k i j : ℕ) (a : nested_array) → slice_get lanes.now k ≡ Some i → slice_get arrays.now i ≡ Some a → a.around ≡ Some j → j < length self.now.groups.spots.items }
+        requires lane { lane < length lanes.now }
+        requires few { length lanes.now ≤ 64 }
+        requires spot { spot.lane < 64 }
+        requires behind { (i : ℕ) (a : nested_array) → slice_get lanes.now lane ≡ Some i → slice_get arrays.now i ≡ Some a → IsBehind self.now.groups spot 0 a }
+        ensures some { 0 < result }
+        ensures within { lane + result ≤ length lanes.now }
+        ensures behind { (k i : ℕ) (a : nested_array) → k < result → slice_get lanes.now (lane + k) ≡ Some i → slice_get arrays.now i ≡ Some a → IsBehind self.now.groups spot k a }
+    {
+        let most = lanes.len() - lane;
+        for k in 0..most {
+            if !self.is_behind(&arrays[lanes[lane + k] as usize], spot, k) {
+                return k;
             }
         }
+        most
+    }
+
+    // Whether the array stands in elements that are read through the array so many spots behind this one.
+    fn is_behind(&self, array: &NestedArray, spot: Spot, behind: usize) -> bool
+        requires spots { (j : ℕ) → array.now.around ≡ Some j → j < length self.now.groups.spots.items }
+        requires few { spot.lane < 64 }
+        requires behind { behind < 64 }
+        ensures behind { result ≡ true → IsBehind self.now.groups spot behind array.now }
+        ensures told { IsBehind self.now.groups spot behind array.now → result ≡ true }
+    {
+        let Some(outer) = array.around else {
+            return false;
+        };
+        let at = self.groups.spots[outer as usize];
+        at.group == spot.group && at.lane == spot.lane + behind
     }
 
     // Finds the places of the elements that are read through the arrays of a group, unless they were asked for last.
@@ -262,9 +314,9 @@ impl Naming {
             return Ok(());
         }
         let bytes = self.bytes_in(alloc, arrays, group)?;
-        around.runs = self
+        around.turns = self
             .rows
-            .runs_of(alloc, self.named[group].as_slice(), bytes.as_slice())?;
+            .turns_of(alloc, self.named[group].as_slice(), bytes.as_slice())?;
         around.group = Some(group);
         Ok(())
     }
@@ -289,6 +341,26 @@ impl Naming {
     }
 }
 
+// The places of the arrays in so many lanes, from one on.
+fn places_of(
+    alloc: Global,
+    arrays: &[NestedArray],
+    lanes: &[u32],
+    lane: usize,
+    count: usize,
+) -> Result<Vec<u32>, NoMemory>
+    requires inside { All (λ i. i < length arrays.now) lanes.now }
+    requires within { lane + count ≤ length lanes.now }
+    ensures count { IfOk result (λ places. length places.items ≡ count) }
+    ensures places { IfOk result (λ places. (k i : ℕ) (a : nested_array) → k < count → slice_get lanes.now (lane + k) ≡ Some i → slice_get arrays.now i ≡ Some a → slice_index places.items k ≡ a.place) }
+{
+    let mut places: Vec<u32> = Vec::with_capacity(alloc, count)?;
+    for k in 0..count {
+        places.push(arrays[lanes[lane + k] as usize].place)?;
+    }
+    Ok(places)
+}
+
 impl Around {
     fn outside(alloc: Global) -> Result<Around, NoMemory>
         ensures around { IfOk result (λ a. AreRuns (0 ∷ []) a.outside) }
@@ -297,7 +369,7 @@ impl Around {
         Ok(Around {
             outside: Runs::outside(alloc)?,
             group: None,
-            runs: Vec::new(alloc),
+            turns: Turns::none(alloc),
         })
     }
 

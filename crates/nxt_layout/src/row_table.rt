@@ -1,15 +1,15 @@
 // The rows of a table that have elements, and the places of the elements that 64 arrays read.
 
-ghost use Rattle.std.specs.Prelude.{◌≡◌, ℕ, List, ◌+◌, ◌<◌, ◌≤◌, length, flat_map, slice_get, slice_index, IfOk, Some};
+ghost use Rattle.std.specs.Prelude.{◌≡◌, ℕ, List, ◌+◌, ◌<◌, ◌≤◌, length, flat_map, slice_index, IfOk};
 ghost use Rattle.std.specs.List.{All};
 
 use crate::bits::Bits;
 use crate::dataspace::Dataspace;
 use crate::edges::{Edge, edges_of};
 use crate::reads::reads_of;
-use crate::runs::Runs;
-use crate::sweep::{no_runs, swept};
+use crate::sweep::swept;
 use crate::table_rows::{TableRow, likes_of, rows_of};
+use crate::turns::{Turns, many_lanes};
 use nxt_types::NoMemory;
 use std::alloc::Global;
 
@@ -29,7 +29,7 @@ impl RowTable {
     ghost use Rattle.nxt_layout.specs.Rows.{Ground, elements_of, read_by};
     ghost use Rattle.nxt_layout.specs.Inside.RowPasses.{ground_of};
     ghost use Rattle.nxt_layout.specs.Inside.Lanes.{HasLane};
-    ghost use Rattle.nxt_layout.specs.Inside.Runs.{AreRuns};
+    ghost use Rattle.nxt_layout.specs.Inside.Turns.{AreTurns};
     ghost use Rattle.nxt_layout.specs.Inside.RowTables.{IsRowTable};
 
     /// The rows of a dataspace's table.
@@ -44,21 +44,23 @@ impl RowTable {
         })
     }
 
-    /// The places of the elements that are read through arrays, a lane for each, by the rows that are named in it and the
-    /// bytes of its element.
-    pub fn runs_of(
-        &self,
-        alloc: Global,
-        named: &[Bits],
-        bytes: &[u32],
-    ) -> Result<Vec<Runs>, NoMemory>
+    /// Where the places begin and end of the elements that are read through arrays, a lane for each, by the rows that are named
+    /// in it and the bytes of its element.
+    pub fn turns_of(&self, alloc: Global, named: &[Bits], bytes: &[u32]) -> Result<Turns, NoMemory>
         requires few { length bytes.now ≤ 64 }
         requires rows { length named.now ≡ self.now.table_rows + 1 }
-        ensures count { IfOk result (λ runs. length runs.items ≡ length bytes.now) }
-        ensures runs { (g : Ground) → IsRowTable g self.now → IfOk result (λ runs. (k : ℕ) (rows : List ℕ) (r : Runs) → slice_get runs.items k ≡ Some r → 0 < slice_index bytes.now k → HasLane g rows k named.now → AreRuns (flat_map (elements_of g) (read_by g (slice_index bytes.now k) rows)) r) }
+        ensures count { IfOk result (λ turns. length turns.strides.items ≡ length bytes.now) }
+        ensures turns { (g : Ground) → IsRowTable g self.now → IfOk result (λ turns. (k : ℕ) (rows : List ℕ) → k < length bytes.now → 0 < slice_index bytes.now k → HasLane g rows k named.now → AreTurns (flat_map (elements_of g) (read_by g (slice_index bytes.now k) rows)) k turns) }
     {
         let reads = reads_of(alloc, self.rows.as_slice(), named, bytes)?;
-        let runs = no_runs(alloc, reads.strides.as_slice())?;
-        swept(alloc, self.edges.as_slice(), reads.rows.as_slice(), runs)
+        let turns = swept(alloc, self.edges.as_slice(), reads.rows.as_slice())?;
+        let many = many_lanes(&turns);
+        let few = Turns::few_runs(alloc, &turns, many, &reads.strides)?;
+        Ok(Turns {
+            strides: reads.strides,
+            many,
+            turns,
+            few,
+        })
     }
 }

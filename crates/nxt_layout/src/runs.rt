@@ -1,6 +1,6 @@
 // Places of elements as runs.
 
-ghost use Rattle.std.specs.Prelude.{◌≡◌, ◌∷◌, [], ℕ, length, IfOk};
+ghost use Rattle.std.specs.Prelude.{◌∷◌, [], IfOk};
 ghost use Rattle.nxt_layout.specs.Inside.Runs.{AreRuns};
 
 use nxt_types::NoMemory;
@@ -22,14 +22,10 @@ pub struct Runs {
 }
 
 impl Runs {
-    /// No places, so many bytes apart.
-    pub fn none(alloc: Global, stride: u32) -> Runs
-        ensures stride { result.stride ≡ stride }
-        ensures once { result.once.items ≡ [] }
-        ensures twice { result.twice.items ≡ [] }
-    {
+    /// No places.
+    pub fn none(alloc: Global) -> Runs {
         Runs {
-            stride,
+            stride: 1,
             once: Vec::new(alloc),
             twice: Vec::new(alloc),
         }
@@ -39,8 +35,12 @@ impl Runs {
     pub fn outside(alloc: Global) -> Result<Runs, NoMemory>
         ensures { IfOk result (AreRuns (0 ∷ [])) }
     {
-        let mut runs = Runs::none(alloc, 1);
-        runs.once.push(Run { from: 0, end: 1 })?;
-        Ok(runs)
+        let mut once: Vec<Run> = Vec::new(alloc);
+        once.push(Run { from: 0, end: 1 })?;
+        Ok(Runs {
+            stride: 1,
+            once,
+            twice: Vec::new(alloc),
+        })
     }
 }

@@ -1,21 +1,19 @@
 // The places at which the numbers of 64 arrays stand.
 
-ghost use Rattle.std.specs.Prelude.{◌≡◌, ◌≢◌, ℕ, List, [], ◌+◌, ◌<◌, ◌≤◌, ◌^◌, Bool, true, length, slice_index_or, IfOk, OnOk};
+ghost use Rattle.std.specs.Prelude.{◌≡◌, ◌≢◌, ℕ, List, ◌+◌, ◌<◌, ◌≤◌, ◌⊎◌, Bool, length, slice_index, slice_index_or, IfOk, OnOk};
 ghost use Rattle.nxt_model.specs.Reading.{row_count};
 ghost use Rattle.nxt_layout.specs.Inside.RowPasses.{ground_of};
 ghost use Rattle.nxt_layout.specs.Inside.Lanes.{IsNamedIn, Tells, no_bits, standing};
 ghost use Rattle.nxt_layout.specs.Inside.Marks.{mark_at, change};
-ghost use Rattle.nxt_layout.specs.Inside.Runs.{covers, AreRuns};
+ghost use Rattle.nxt_layout.specs.Inside.Runs.{AreRuns};
 
 use crate::bits::Bits;
 use crate::dataspace::Dataspace;
 use crate::marks::{fill, flip, spread};
-use crate::runs::{Run, Runs};
+use crate::runs::Runs;
+use crate::turns::{Block, Turns};
 use nxt_types::NoMemory;
 use std::alloc::Global;
-
-/// So many places are marked one by one; of more, only those at which runs begin and end.
-const FEW: usize = 4096;
 
 /// Lanes that are marked at the places at which they differ from the place so many bytes before.
 #[derive(Clone, Copy)]
@@ -33,12 +31,14 @@ pub struct Sites {
 }
 
 impl Sites {
-    ghost use Rattle.nxt_layout.specs.Inside.Sites.{StandAt, IsApart, unspread};
+    ghost use Rattle.nxt_layout.specs.Inside.Sites.{StandAt, IsApart, IsFree, IsSameLane, unspread};
+    ghost use Rattle.nxt_layout.specs.Inside.Turns.{AreTurns};
+    ghost use Rattle.nxt_layout.specs.Inside.Prepared.{IsPrepared};
 
     /// No places in a dataspace of so many bytes.
     pub fn none(alloc: Global, size: usize) -> Result<Sites, NoMemory>
         ensures size { IfOk result (λ s. length s.here.items ≡ size) }
-        ensures none { IfOk result (λ s. (k c : ℕ) → k < 64 → StandAt k c [] s) }
+        ensures none { IfOk result (λ s. (k : ℕ) → k < 64 → IsFree k s) }
     {
         let here = vec![in alloc; Bits::NONE; size]?;
         Ok(Sites {
@@ -47,23 +47,82 @@ impl Sites {
         })
     }
 
-    /// Puts the numbers that stand at a place in elements into a lane that has none.
-    pub fn add(&mut self, lane: u32, runs: &Runs, place: u32) -> Result<(), NoMemory>
+    /// Marks the numbers that stand at a place in elements, in a lane that has none.
+    pub fn fill(&mut self, lane: u32, runs: &Runs, place: u32)
         requires lane { lane < 64 }
-        requires free { (c : ℕ) → StandAt lane c [] self.old }
-        ensures size { OnOk result (length self.new.here.items ≡ length self.old.here.items) }
-        ensures lane { (bases : List ℕ) → AreRuns bases runs.now → OnOk result (StandAt lane place bases self.new) }
-        ensures others { (k c : ℕ) (bases : List ℕ) → k < 64 → k ≢ lane → StandAt k c bases self.old → OnOk result (StandAt k c bases self.new) }
+        requires free { IsFree lane self.old }
+        ensures size { length self.new.here.items ≡ length self.old.here.items }
+        ensures lane { (bases : List ℕ) → AreRuns bases runs.now → StandAt lane place bases self.new }
+        ensures others { (k : ℕ) → k < 64 → k ≢ lane → IsSameLane k self.old self.new }
     {
-        if runs.stride == 0 {
-            return Ok(());
-        }
-        if are_few(runs) {
+        if runs.stride > 0 {
             fill(&mut self.here, lane, runs, place);
+        }
+    }
+
+    /// Puts the numbers that stand in elements, by lane at a place, into the lanes of a block, which have none.
+    pub fn add(
+        &mut self,
+        alloc: Global,
+        turns: &Turns,
+        block: Block,
+        places: &[u32],
+    ) -> Result<(), NoMemory>
+        requires some { 0 < block.count }
+        requires from { block.from + block.count ≤ 64 }
+        requires to { block.to + block.count ≤ 64 }
+        requires within { block.from + block.count ≤ length turns.now.strides.items }
+        requires places { length places.now ≡ block.count }
+        requires free { (i : ℕ) → i < block.count → IsFree (block.to + i) self.old }
+        ensures size { OnOk result (length self.new.here.items ≡ length self.old.here.items) }
+        ensures lanes { (i : ℕ) (bases : List ℕ) → i < block.count → AreTurns bases (block.from + i) turns.now → OnOk result (StandAt (block.to + i) (slice_index places.now i) bases self.new) }
+        ensures others { (k : ℕ) → k < 64 → (k < block.to) ⊎ (block.to + block.count ≤ k) → OnOk result (IsSameLane k self.old self.new) }
+    {
+        for i in 0..block.count {
+            self.prepare(
+                alloc,
+                turns,
+                block.from + i,
+                block.to + i,
+                places[i as usize],
+            )?;
+        }
+        flip(
+            alloc,
+            &mut self.here,
+            &turns.turns,
+            turns.many,
+            block,
+            places,
+        )?;
+        Ok(())
+    }
+
+    // Marks the numbers of a lane that has few places. Those of one that has more are to be spread from where they turn.
+    fn prepare(
+        &mut self,
+        alloc: Global,
+        turns: &Turns,
+        from: u32,
+        to: u32,
+        place: u32,
+    ) -> Result<(), NoMemory>
+        requires from { from < 64 }
+        requires to { to < 64 }
+        requires within { from < length turns.now.strides.items }
+        requires free { IsFree to self.old }
+        ensures size { OnOk result (length self.new.here.items ≡ length self.old.here.items) }
+        ensures lane { (bases : List ℕ) → AreTurns bases from turns.now → OnOk result (IsPrepared turns.now from to place bases self.new) }
+        ensures others { (k : ℕ) → k < 64 → k ≢ to → OnOk result (IsSameLane k self.old self.new) }
+    {
+        if turns.many >> from & 1 == 0 {
+            self.fill(to, &turns.few[from as usize], place);
             return Ok(());
         }
-        self.spread_later(lane, runs.stride)?;
-        flip(&mut self.here, lane, runs, place);
+        let stride = turns.strides[from as usize];
+        if stride > 0 {
+            self.spread_later(to, stride)?;
+        }
         Ok(())
     }
 
@@ -107,30 +166,6 @@ impl Sites {
             spread(&mut self.here, later.stride as usize, later.lanes);
         }
     }
-}
-
-// Whether the runs have few places, by the bytes from where each begins to its end.
-fn are_few(runs: &Runs) -> bool
-    ensures { AreRuns [] runs.now → result ≡ true }
-{
-    let most = FEW * runs.stride as usize;
-    length_of(&runs.once, most) + length_of(&runs.twice, most) <= most
-}
-
-// How many bytes the runs take; where that is more than so many, at least some more.
-fn length_of(runs: &[Run], most: usize) -> usize
-    requires { most < 2 ^ 44 }
-    ensures bound { result < 2 ^ 45 }
-    ensures none { (stride : ℕ) → ((q : ℕ) → covers stride q runs.now ≡ 0) → result ≡ 0 }
-{
-    let mut length = 0;
-    for run in runs {
-        if length > most {
-            break;
-        }
-        length += run.end.saturating_sub(run.from) as usize;
-    }
-    length
 }
 
 // What the numbers name where the bits of each place tell how many of them stand there.

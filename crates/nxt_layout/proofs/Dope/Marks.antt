@@ -1,5 +1,5 @@
 -- Marks in lanes at the places of runs.
-use Rattle.std.proofs.Common.{◌≡◌, ◌≢◌, ℕ, ◌+◌, ◌-◌, ◌*◌, ◌%◌, ◌^◌, ◌<◌, ◌≤◌, Bool, true, false, cond, ◌&&◌, ◌==◌, nat_le, nat_lt, min, max, List, [], ◌∷◌, ◌++◌, length, take, set, get_or, get_or-set_same, get_or-set_other, eq-eqb, ne_eqb, lt-ltb, inl, inr, refl, sym, ap, ◌∙◌, subst, arith}
+use Rattle.std.proofs.Common.{◌≡◌, ◌≢◌, ℕ, ◌+◌, ◌-◌, ◌*◌, ◌%◌, ◌^◌, ◌<◌, ◌≤◌, Bool, true, false, cond, ◌&&◌, ◌==◌, nat_le, nat_lt, min, max, List, [], ◌∷◌, ◌++◌, length, take, set, get_or, get_or-set_same, get_or-set_other, eq-eqb, ne_eqb, lt-ltb, inl, inr, refl, sym, ap, ◌∙◌, arith}
 use Rattle.std.specs.Prelude.{slice_index_or}
 use Rattle.std.specs.Int.{bit_at}
 use Rattle.std.proofs.Math.Nat.{mod-add-mod, add-mod_right, mod-eq_of_lt}
@@ -7,6 +7,7 @@ use Rattle.std.proofs.lemmas.Bool.{cases_eq, cases_lt, cases_order, le-ltb, le-l
 use Rattle.std.proofs.lemmas.List.{take_more}
 use Rattle.std.proofs.lemmas.Nat.{mod_below, one_shl}
 use Rattle.std.proofs.lemmas.Nat.Bits.{bit_at-lt, bit_at-pow_same, bit_at-pow_other}
+use Rattle.nxt_facts.proofs.Each.{Each}
 use Rattle.nxt_facts.proofs.Sums.{bit, tally, tally_is, tally-append}
 use Rattle.nxt_layout.specs.declared.bits.Bits.{Bits}
 use Rattle.nxt_layout.specs.declared.runs.Run.{Run}
@@ -418,19 +419,24 @@ change_ends d c q r some is =
     ∙ ap (λ n. n % 2) (further_two c (at_place r.from) (at_place r.end) q)
     ∙ (let from = further_place c r.from q in let end = further_place c r.end q in omega (arith, from, end))
 
-pub change_more : (d c : ℕ) (rs : List Run) (i : ℕ) (r : Run) → i < length rs → r ≡ get_or rs i r → 0 < d → IsRun d r → (q : ℕ) → change d (further c (λ x. covers d x (take (i + 1) rs))) q ≡ (change d (further c (λ x. covers d x (take i rs))) q + (at_place (r.from + c) q + at_place (r.end + c) q)) % 2
-change_more d c rs i r less is some whole q =
-    let both =
-    change_same d (further c (λ x. covers d x (take (i + 1) rs))) (λ x. further c (λ y. covers d y (take i rs)) x + further c (λ y. covers d y (r ∷ [])) x)
-    (further_more d c rs i r less is) q in
-    let two = change_two d (further c (λ y. covers d y (take i rs))) (further c (λ y. covers d y (r ∷ []))) q in
-    omega (arith, both, two, change_ends d c q r some whole)
+-- where runs begin and end, so many bytes further on
+abbrev pub ends : ℕ → ℕ → List Run → ℕ
+ends c q [] = 0
+ends c q (r ∷ rs) = at_place (r.from + c) q + at_place (r.end + c) q + ends c q rs
 
-pub change_empty : (d c q : ℕ) → change d (further c (λ x. covers d x [])) q ≡ 0
-change_empty d c q = change_none d (further c (λ x. covers d x [])) (further_none d c) q
+pub ends-push : (c q : ℕ) (rs : List Run) (r : Run) → ends c q (rs ++ r ∷ []) ≡ ends c q rs + (at_place (r.from + c) q + at_place (r.end + c) q)
+ends-push c q [] r = omega arith
+ends-push c q (x ∷ rs) r = omega (arith, ends-push c q rs r)
 
-pub run_of : (d : ℕ) (rs : List Run) (i : ℕ) (r : Run) → i < length rs → r ≡ get_or rs i r → ((k : ℕ) (e : Run) → k < length rs → IsRun d (slice_index_or rs k e)) → IsRun d r
-run_of d rs i r less is all = subst (IsRun d) (sym is) (all i r less)
+pub change_all : (d c q : ℕ) (rs : List Run) → 0 < d → Each (IsRun d) rs → change d (further c (λ x. covers d x rs)) q ≡ ends c q rs % 2
+change_all d c q [] some whole = change_none d (further c (λ x. covers d x [])) (further_none d c) q
+change_all d c q (r ∷ rs) some whole =
+    let first : (x : ℕ) → further c (λ y. covers d y (r ∷ rs)) x ≡ further c (λ y. covers d y (r ∷ [])) x + further c (λ y. covers d y rs) x = λ x.
+    further_same c (λ y. covers d y (r ∷ rs)) (λ y. covers d y (r ∷ []) + covers d y rs) (λ y. omega (arith, covers_is d y (r ∷ rs), covers_is d y (r ∷ []), covers_is d y rs)) x
+    ∙ further_two c (λ y. covers d y (r ∷ [])) (λ y. covers d y rs) x in
+    let both = change_same d (further c (λ x. covers d x (r ∷ rs))) (λ x. further c (λ y. covers d y (r ∷ [])) x + further c (λ y. covers d y rs) x) first q in
+    let two = change_two d (further c (λ y. covers d y (r ∷ []))) (further c (λ y. covers d y rs)) q in
+    omega (arith, both, two, change_ends d c q r some whole.0, change_all d c q rs some whole.1)
 
 -- ---- changes made into marks
 
@@ -445,18 +451,3 @@ lane_once b lane here others k small =
       | inl same ↦ ap (bit_at b.once) same ∙ here.once ∙ sym (place_same lane k same)
       | inr other ↦ let none = others k small other in none.once ∙ sym (place_other lane k other)
     ]
-
-pub lane_not_twice : (b : Bits) (lane : ℕ) → Tells b lane 1 → ((k : ℕ) → k < 64 → k ≢ lane → Tells b k 0) → (k : ℕ) → k < 64 → mark true b k ≡ 0
-lane_not_twice b lane here others k small =
-    elim (cases_eq k lane) [
-      | inl same ↦ ap (bit_at b.twice) same ∙ here.twice
-      | inr other ↦ let none = others k small other in none.twice
-    ]
-
--- these marks are flipped where the runs change
-abbrev pub IsFlipped : ℕ → ℕ → List Bits → List Bits → Bits → List Run → Type 0
-IsFlipped d c old new marks rs =
-    ((k : ℕ) (e : Run) → k < length rs → IsRun d (slice_index_or rs k e)) → (t : Bool) (k q : ℕ) → q < length old → mark_at t new k q ≡ (mark_at t old k q + min (mark t marks k) (change d (further c (λ x. covers d x rs)) q)) % 2
-
-pub covers_first : (d x : ℕ) (r : Run) (rs : List Run) → covers d x (r ∷ rs) ≡ inside d r.from r.end x + covers d x rs
-covers_first d x r rs = omega (arith, covers_is d x (r ∷ rs), covers_is d x rs)

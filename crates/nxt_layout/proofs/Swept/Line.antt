@@ -10,7 +10,8 @@ use Rattle.nxt_layout.specs.declared.bits.Bits.{Bits}
 use Rattle.nxt_layout.specs.declared.runs.Run.{Run}
 use Rattle.nxt_layout.specs.Inside.Edges.{key_of, order_of}
 use Rattle.std.proofs.lemmas.Nat.{mod-mul-add}
-use Rattle.nxt_layout.specs.Inside.Sweeps.{Lane, LaneState, IsSafe, IsSafeCount, turn, pass_edge, edge_weight}
+use Rattle.nxt_layout.specs.Inside.Turns.{Lane, turn}
+use Rattle.nxt_layout.specs.Inside.Sweeps.{LaneState, IsSafe, IsSafeCount, pass_edge, edge_weight}
 
 -- a run by the keys of its edges
 pub record Stretch : Type 0 where

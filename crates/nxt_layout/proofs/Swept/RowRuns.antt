@@ -1,9 +1,11 @@
--- The runs of a lane have the places of the elements that are read in it.
+-- The turns of a lane have the places of the elements that are read in it.
 use Rattle.std.proofs.Common.{◌≡◌, ℕ, ◌+◌, ◌-◌, ◌*◌, ◌%◌, ◌^◌, ◌<◌, ◌≤◌, Bool, true, false, ◌&&◌, ◌==◌, nat_lt, nat_le, min, List, [], ◌∷◌, map, flat_map, All, get_or, inl, inr, if◌then◌else◌, refl, sym, ap, ap₂, ◌∙◌, subst, arith, eq-eqb, ne_eqb}
+use Rattle.std.specs.Prelude.{slice_get, slice_index, Some}
 use Rattle.std.proofs.lemmas.Bool.{and_from, and_left, and_right, cases_lt, cases_order, le-leb, lt-leb, lt-ltb, le-ltb}
 use Rattle.std.proofs.lemmas.List.Elements.{recursion_from_All, All-from_recursion, All-map}
 use Rattle.std.proofs.lemmas.Nat.{mod_below}
 use Rattle.std.proofs.lemmas.Nat.Bits.{bit_at-lt}
+use Rattle.std.specs.Int.{bit_at}
 use Rattle.nxt_facts.specs.Sums.{sum_below}
 use Rattle.nxt_facts.proofs.Each.{Each, each_then, each_both}
 use Rattle.nxt_facts.proofs.Sums.{total, total-map, total_same, bit, tally_is}
@@ -12,14 +14,17 @@ use Rattle.nxt_model.specs.Reading.{row_count}
 use Rattle.nxt_layout.specs.declared.bits.Bits.{Bits}
 use Rattle.nxt_layout.specs.declared.edges.Edge.{Edge}
 use Rattle.nxt_layout.specs.declared.runs.Runs.{Runs}
+use Rattle.nxt_layout.specs.declared.turns.Turn.{Turn}
+use Rattle.nxt_layout.specs.declared.turns.Turns.{Turns}
 use Rattle.nxt_layout.specs.Rows.{Ground, row, row_end, has_elements, read_by, elements_of}
 use Rattle.nxt_layout.specs.Inside.RowPasses.{times}
 use Rattle.nxt_layout.specs.Inside.Lanes.{Tells, no_bits}
-use Rattle.nxt_layout.specs.Inside.Runs.{is_in, covers, IsRun, AreRuns}
+use Rattle.nxt_layout.specs.Inside.Runs.{is_in, covers, IsRun, HaveRuns, AreRuns}
+use Rattle.nxt_layout.specs.Inside.Turns.{track, AreRunsIn, AreTurns}
 use Rattle.nxt_layout.specs.Inside.Counts.{weight}
 use Rattle.nxt_layout.specs.Inside.Edges.{IsEdge, AreEdges, order_of, is_edged, first_edge, last_edge, key_of}
 use Rattle.nxt_layout.specs.Inside.Leads.{lead_before, stride_by, times_read}
-use Rattle.nxt_layout.specs.Inside.Sweeps.{nothing_yet, edge_weight, passed}
+use Rattle.nxt_layout.specs.Inside.Sweeps.{nothing_yet, edge_weight, passed, tracked}
 use Rattle.nxt_layout.proofs.Swept.Line as line
 use Rattle.nxt_layout.proofs.Swept.Line.{Line, Stretch, IsStretch, Safe, over, is_over, run_of, sweep, level, low_half, once_of, twice_of, covered_all, good_all, state_all, safe_from, count_is}
 use Rattle.nxt_layout.proofs.Swept.RowSums.{if_true, if_false, sums_none, edged_parts, place_before_end, is_between, rises, begun_most, all_end, level_sum, line_end}
@@ -203,6 +208,17 @@ covers_none s q rs past = tally_is (is_in s q) (map run_of rs) ∙ total-map (λ
 abbrev line₀ : Line
 line₀ = record { count = 0; from = 0; runs = [] }
 
+-- runs that are listed
+runs_in : {bases : List ℕ} {turns : List Turn} {d k : ℕ} {r : Runs} → HaveRuns bases d (track false k turns).lane.runs (track true k turns).lane.runs → AreRunsIn turns d k r → AreRuns bases r
+runs_in {bases = bases} {turns = turns} {d = d} {k = k} {r = r} have is =
+    subst
+    (λ n. HaveRuns bases n r.once.items r.twice.items)
+    (sym is.stride)
+    (subst
+    (λ x. HaveRuns bases d x r.twice.items)
+    (sym is.once)
+    (subst (λ x. HaveRuns bases d (track false k turns).lane.runs x) (sym is.twice) have))
+
 module _ (g : Ground) (edges : List Edge) (are : AreEdges g edges) (few : row_count g.memory < 2 ^ 16) (reads : List Bits) (k bytes : ℕ) (among : List ℕ) (some : 0 < bytes) (below : Each (λ r. r < row_count g.memory) among) (told : (r : ℕ) → r < row_count g.memory → has_elements g r ≡ true → Tells (get_or reads r no_bits) k (times_read g bytes among r))
   where
     abbrev weights : ℕ → ℕ
@@ -365,30 +381,53 @@ module _ (g : Ground) (edges : List Edge) (are : AreEdges g edges) (few : row_co
     two_most : (c : ℕ) → twice_of c ≤ 1
     two_most c = omega arith
 
-    pub are_runs : (r : Runs) → r.stride ≡ s → r.once.items ≡ (passed reads k edges).once.runs → r.twice.items ≡ (passed reads k edges).twice.runs → AreRuns (flat_map (elements_of g) (read_by g bytes among)) r
-    are_runs r stride once_is twice_is =
+    state : line.IsState (passed reads k edges) (sweep once_of (edge_weight reads k) line₀ edges) (sweep twice_of (edge_weight reads k) line₀ edges)
+    state = state_all reads k nothing_yet line₀ line₀ edges each_small (record { once_count = refl; twice_count = refl; once_lane = refl; twice_lane = refl })
+
+    once_runs : (passed reads k edges).once.runs ≡ map run_of (sweep once_of (edge_weight reads k) line₀ edges).runs
+    once_runs = ap (λ l. l.runs) state.once_lane
+
+    twice_runs : (passed reads k edges).twice.runs ≡ map run_of (sweep twice_of (edge_weight reads k) line₀ edges).runs
+    twice_runs = ap (λ l. l.runs) state.twice_lane
+
+    no_count : (passed reads k edges).count ≡ 0
+    no_count = state.once_count ∙ last_count once_of one_most refl
+
+    capped : (q : ℕ) → min 2 (times q (flat_map (elements_of g) (read_by g bytes among))) ≡ min 2 (sum_below (part_at q) (row_count g.memory))
+    capped q = times_capped g bytes among some weights weights_told q below
+
+    have_runs : HaveRuns (flat_map (elements_of g) (read_by g bytes among)) s (passed reads k edges).once.runs (passed reads k edges).twice.runs
+    have_runs =
         record {
-          stride = subst (λ n. 0 < n) (sym stride) (stride_some bytes (lead_before g among (row_count g.memory)) some);
-          once = λ q.
-              ap₂ (λ n rs. covers n q rs) stride once_runs
-              ∙ covers_all once_of one_most refl q
-              ∙ (let cap = capped q in omega (arith, cap));
-          twice = λ q.
-              ap₂ (λ n rs. covers n q rs) stride twice_runs
-              ∙ covers_all twice_of two_most refl q
-              ∙ (let cap = capped q in omega (arith, cap));
-          whole = subst (λ n. All (IsRun n) r.once.items) (sym stride) (subst (All (IsRun s)) (sym once_runs) (all_runs once_of one_most refl));
-          whole_twice = subst (λ n. All (IsRun n) r.twice.items) (sym stride) (subst (All (IsRun s)) (sym twice_runs) (all_runs twice_of two_most refl));
+          apart = stride_some bytes (lead_before g among (row_count g.memory)) some;
+          once = λ q. ap (covers s q) once_runs ∙ covers_all once_of one_most refl q ∙ (let cap = capped q in omega (arith, cap));
+          twice = λ q. ap (covers s q) twice_runs ∙ covers_all twice_of two_most refl q ∙ (let cap = capped q in omega (arith, cap));
+          whole = subst (All (IsRun s)) (sym once_runs) (all_runs once_of one_most refl);
+          whole_twice = subst (All (IsRun s)) (sym twice_runs) (all_runs twice_of two_most refl);
+        }
+
+    -- the turns of the sweep
+    pub are_turns : (ts : Turns) → slice_index ts.strides.items k ≡ s → ((t : Bool) → track t k ts.turns.items ≡ tracked t (passed reads k edges)) → ((r : Runs) → bit_at ts.many k ≡ 0 → slice_get ts.few.items k ≡ Some r → AreRunsIn ts.turns.items (slice_index ts.strides.items k) k r) → AreTurns (flat_map (elements_of g) (read_by g bytes among)) k ts
+    are_turns ts stride is listed =
+        record {
+          shut = shut;
+          runs = runs;
+          few = λ r few at. runs_in runs (listed r few at);
         }
       where
-        state : line.IsState (passed reads k edges) (sweep once_of (edge_weight reads k) line₀ edges) (sweep twice_of (edge_weight reads k) line₀ edges)
-        state = state_all reads k nothing_yet line₀ line₀ edges each_small (record { once_count = refl; twice_count = refl; once_lane = refl; twice_lane = refl })
+        runs : HaveRuns (flat_map (elements_of g) (read_by g bytes among)) (slice_index ts.strides.items k) (track false k ts.turns.items).lane.runs (track true k ts.turns.items).lane.runs
+        runs =
+            subst
+            (λ n. HaveRuns (flat_map (elements_of g) (read_by g bytes among)) n (track false k ts.turns.items).lane.runs (track true k ts.turns.items).lane.runs)
+            (sym stride)
+            (subst
+            (λ x. HaveRuns (flat_map (elements_of g) (read_by g bytes among)) s x (track true k ts.turns.items).lane.runs)
+            (sym (ap (λ x. x.lane.runs) (is false)))
+            (subst
+            (λ x. HaveRuns (flat_map (elements_of g) (read_by g bytes among)) s (passed reads k edges).once.runs x)
+            (sym (ap (λ x. x.lane.runs) (is true)))
+            have_runs))
 
-        once_runs : r.once.items ≡ map run_of (sweep once_of (edge_weight reads k) line₀ edges).runs
-        once_runs = once_is ∙ ap (λ l. l.runs) state.once_lane
-
-        twice_runs : r.twice.items ≡ map run_of (sweep twice_of (edge_weight reads k) line₀ edges).runs
-        twice_runs = twice_is ∙ ap (λ l. l.runs) state.twice_lane
-
-        capped : (q : ℕ) → min 2 (times q (flat_map (elements_of g) (read_by g bytes among))) ≡ min 2 (sum_below (part_at q) (row_count g.memory))
-        capped q = times_capped g bytes among some weights weights_told q below
+        shut : (t : Bool) → (track t k ts.turns.items).begun ≡ 0
+        shut false = let there = ap (λ x. x.begun) (is false) in omega (arith, there, no_count)
+        shut true = let there = ap (λ x. x.begun) (is true) in omega (arith, there, no_count)

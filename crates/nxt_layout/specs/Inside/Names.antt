@@ -7,14 +7,17 @@ use Rattle.nxt_layout.specs.declared.names.Around.{Around}
 use Rattle.nxt_layout.specs.declared.names.Names.{Names}
 use Rattle.nxt_layout.specs.declared.names.Naming.{Naming}
 use Rattle.nxt_layout.specs.declared.nested.NestedArray.{NestedArray}
-use Rattle.nxt_layout.specs.declared.runs.Runs.{Runs}
+use Rattle.nxt_layout.specs.declared.nested.Groups.{Groups}
+use Rattle.nxt_layout.specs.declared.nested.Spot.{Spot}
+use Rattle.nxt_layout.specs.declared.turns.Turns.{Turns}
 use Rattle.std.specs.declared.alloc.Global.{Global}
 use Rattle.nxt_layout.specs.Rows.{Ground, elements_of}
 use Rattle.nxt_layout.specs.Inside.RowPasses.{Through, times, all_rows, first_beyond, IsMarked}
 use Rattle.nxt_layout.specs.Inside.Lanes.{no_bits, HasLane}
-use Rattle.nxt_layout.specs.Inside.Nested.{through_at, read_in, throughs, AreGroups, group_of}
+use Rattle.nxt_layout.specs.Inside.Nested.{through_at, read_in, throughs, AreGroups, group_of, spot_at}
 use Rattle.nxt_layout.specs.Inside.RowTables.{IsRowTable}
 use Rattle.nxt_layout.specs.Inside.Runs.{AreRuns}
+use Rattle.nxt_layout.specs.Inside.Turns.{AreTurns}
 
 -- in this lane the bits of each row tell how often the array names it, and behind them whether a number is past the rows
 pub record TellsOf (g : Ground) (t : Through) (k : ℕ) (named : List Bits) : Type 0 where
@@ -65,12 +68,19 @@ pub record IsNaming (g : Ground) (ns : List NestedArray) (n : Naming) : Type 0 w
   pub long : (b : ℕ) (v : Vec Bits Global) → slice_get n.named.items b ≡ Some v → length v.items ≡ row_count g.memory + 1
   pub told : (b : ℕ) (v : Vec Bits Global) → slice_get n.named.items b ≡ Some v → AreTold g (throughs g ns) (group_of n.groups b) v.items
 
+-- the array stands in elements that are read through the array so many spots behind this one
+pub record IsBehind (gs : Groups) (spot : Spot) (behind : ℕ) (a : NestedArray) : Type 0 where
+  pub around : ℕ
+  pub it : a.around ≡ Some around
+  pub group : (spot_at gs.spots.items around).group ≡ spot.group
+  pub lane : (spot_at gs.spots.items around).lane ≡ spot.lane + behind
+
 -- the places of the elements that are read through the arrays of a group
-pub record AreRunsOf (g : Ground) (ns : List NestedArray) (arrays : List ℕ) (rs : List Runs) : Type 0 where
-  pub count : length rs ≡ length arrays
-  pub runs : (k i : ℕ) (n : NestedArray) (r : Runs) → slice_get arrays k ≡ Some i → slice_get ns i ≡ Some n → 0 < n.bytes → slice_get rs k ≡ Some r → AreRuns (flat_map (elements_of g) (read_in g (throughs g ns) i)) r
+pub record AreTurnsOf (g : Ground) (ns : List NestedArray) (arrays : List ℕ) (ts : Turns) : Type 0 where
+  pub count : length ts.strides.items ≡ length arrays
+  pub turns : (k i : ℕ) (n : NestedArray) → slice_get arrays k ≡ Some i → slice_get ns i ≡ Some n → 0 < n.bytes → AreTurns (flat_map (elements_of g) (read_in g (throughs g ns) i)) k ts
 
 -- what was found last is right
 pub record IsAround (g : Ground) (ns : List NestedArray) (n : Naming) (a : Around) : Type 0 where
   pub outside : AreRuns (0 ∷ []) a.outside
-  pub runs : (b : ℕ) → a.group ≡ Some b → AreRunsOf g ns (group_of n.groups b) a.runs.items
+  pub turns : (b : ℕ) → a.group ≡ Some b → AreTurnsOf g ns (group_of n.groups b) a.turns

@@ -17,9 +17,12 @@ pub record IsRun (stride : ℕ) (r : Run) : Type 0 where
   pub even : r.end % stride ≡ r.from % stride
 
 -- a run has each place that is among these, and another one each that is among them several times
-pub record AreRuns (bases : List ℕ) (r : Runs) : Type 0 where
-  pub stride : 0 < r.stride
-  pub once : (q : ℕ) → covers r.stride q r.once.items ≡ min 1 (times q bases)
-  pub twice : (q : ℕ) → covers r.stride q r.twice.items ≡ min 1 (times q bases - 1)
-  pub whole : All (IsRun r.stride) r.once.items
-  pub whole_twice : All (IsRun r.stride) r.twice.items
+pub record HaveRuns (bases : List ℕ) (stride : ℕ) (runs more : List Run) : Type 0 where
+  pub apart : 0 < stride
+  pub once : (q : ℕ) → covers stride q runs ≡ min 1 (times q bases)
+  pub twice : (q : ℕ) → covers stride q more ≡ min 1 (times q bases - 1)
+  pub whole : All (IsRun stride) runs
+  pub whole_twice : All (IsRun stride) more
+
+abbrev pub AreRuns : List ℕ → Runs → Type 0
+AreRuns bases r = HaveRuns bases r.stride r.once.items r.twice.items

@@ -34,7 +34,7 @@ loop-group-init c =
       around =
           record {
             outside = c.in_ok-around.ensures.around;
-            runs = λ b e. let f : None ≡ Some b = sym c.in_ok-around.ensures.none ∙ e in cc;
+            turns = λ b e. let f : None ≡ Some b = sym c.in_ok-around.ensures.none ∙ e in cc;
           };
       names =
           subst
@@ -73,7 +73,7 @@ loop-group-preserved c =
           (subst (λ k. AreTold g ts (group_of gs k) c.in_ok-named.named.items) (sym is.count) told);
       count = omega (arith, ap length c.in_ok-push.ensures.items, length-append c.loop-group.naming.named.items (c.in_ok-named.named ∷ []), is.count);
       starts = is.starts;
-      around = record { outside = c.in_ok-named.ensures.around.outside; runs = c.in_ok-named.ensures.around.runs };
+      around = record { outside = c.in_ok-named.ensures.around.outside; turns = c.in_ok-named.ensures.around.turns };
       names =
           subst
           (λ xs. AreNames g ts xs c.take.new.self)

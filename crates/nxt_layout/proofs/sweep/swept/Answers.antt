@@ -1,9 +1,9 @@
 -- One edge more in each lane.
-use Rattle.std.proofs.Common.{ℕ, false, ◌+◌, ◌≡◌, ◌<◌, take, length, ap, sym, ◌∙◌, subst, arith, get_or}
+use Rattle.std.proofs.Common.{ℕ, false, ◌+◌, ◌≡◌, ◌<◌, take, length, ap, sym, ◌∙◌, subst, get_or}
 use Rattle.std.proofs.lemmas.List.{take_all}
 use Rattle.nxt_layout.specs.declared.edges.Edge.{Edge}
 use Rattle.nxt_layout.specs.Inside.Counts.{weight}
-use Rattle.nxt_layout.specs.Inside.Sweeps.{HasState, IsSweep, IsSafe, pass_by, passed, edge_weight}
+use Rattle.nxt_layout.specs.Inside.Sweeps.{HasState, IsSafe, pass_by, passed, edge_weight, tracked}
 use Rattle.nxt_layout.specs.Inside.Lanes.{no_bits}
 use Rattle.nxt_layout.proofs.Swept.Sweeps.{IsPassed, passed_more, pass_none, no_weight}
 use Rattle.nxt_layout.proofs.sweep.swept.Goals as goal
@@ -11,6 +11,9 @@ use Rattle.nxt_layout.proofs.sweep.swept.Goals.{then-read-gt0+in_ok-pass, else-r
 
 no_edge : Edge
 no_edge = record { stride = 0; rest = 0; at = 0; row = 0; begins = false }
+
+pub loop-edge-init : goal.loop-edge-init
+loop-edge-init c k small safe = c.start-sweep.ensures k
 
 pub loop-edge-preserved : goal.loop-edge-preserved
 unfolding no_edge
@@ -27,38 +30,29 @@ loop-edge-preserved c =
     elim c.if-read-gt0.branch [
       | then-read-gt0+in_ok-pass w ↦
           subst
-          (λ s. IsPassed reads edges (i + 1) c.args.runs.items s)
+          (λ s. IsPassed reads edges (i + 1) s)
           (sym w.sweep-is)
-          (record {
-            shape = subst (λ n. IsSweep n w.pass.new.self) inv.shape.runs w.in_ok-pass.ensures.shape;
-            strides = w.in_ok-pass.ensures.strides ∙ inv.strides;
-            state = λ k small within once twice safe.
-                subst
-                (HasState w.pass.new.self k)
-                (ap (λ b. pass_by (weight b k) edge.at edge.begins (passed reads k (take i edges))) is ∙ sym (more k))
-                (w.in_ok-pass.ensures.state k (passed reads k (take i edges)) small (omega (arith, within, inv.shape.runs)) (inv.state k small within once twice safe)
-                (subst (λ b. IsSafe (weight b k) edge.begins (passed reads k (take i edges))) (sym is) (safe i no_edge less)));
-          })
+          (λ k small safe.
+          subst
+          (HasState w.pass.new.self k)
+          (ap (λ b. pass_by (weight b k) edge.at edge.begins (passed reads k (take i edges))) is ∙ sym (more k))
+          (w.in_ok-pass.ensures k (passed reads k (take i edges)) small (inv k small safe)
+          (subst (λ b. IsSafe (weight b k) edge.begins (passed reads k (take i edges))) (sym is) (safe i no_edge less))))
       | else-read-gt0 w ↦
           subst
-          (λ s. IsPassed reads edges (i + 1) c.args.runs.items s)
+          (λ s. IsPassed reads edges (i + 1) s)
           (sym w.sweep-is)
-          (record {
-            shape = inv.shape;
-            strides = inv.strides;
-            state = λ k small within once twice safe.
-                let none : edge_weight reads k edge ≡ 0 = ap (λ b. weight b k) (sym is) ∙ no_weight read k w.if-read-gt0.false in
-                subst
-                (HasState c.loop-edge.sweep k)
-                (sym (more k ∙ ap (λ n. pass_by n edge.at edge.begins (passed reads k (take i edges))) none ∙ pass_none edge.at edge.begins (passed reads k (take i edges))))
-                (inv.state k small within once twice safe);
-          })
+          (λ k small safe.
+          let none : edge_weight reads k edge ≡ 0 = ap (λ b. weight b k) (sym is) ∙ no_weight read k w.if-read-gt0.false in
+          subst
+          (HasState c.loop-edge.sweep k)
+          (sym (more k ∙ ap (λ n. pass_by n edge.at edge.begins (passed reads k (take i edges))) none ∙ pass_none edge.at edge.begins (passed reads k (take i edges))))
+          (inv k small safe))
     ]
 
-pub returns-clause-lists : goal.returns-clause-lists
-returns-clause-lists c k small within once twice safe =
+pub returns : goal.returns
+returns c t k small safe =
     let edges = c.args.edges.now in
     let all = take_all c.loop-edge.edge-index edges c.loop-edge-test.false in
-    let has = c.loop-edge.invariant.state k small within once twice safe in
-    let is = ap (λ es. passed c.args.reads.now k es) all in
-    (ap (λ l. l.runs) has.once ∙ ap (λ s. s.once.runs) is, ap (λ l. l.runs) has.twice ∙ ap (λ s. s.twice.runs) is)
+    let has = c.loop-edge.invariant k small safe in
+    has.tracks t ∙ ap (λ es. tracked t (passed c.args.reads.now k es)) all

@@ -1,0 +1,1 @@
+-- Each turn flips its marks.
