@@ -7,7 +7,7 @@ Two files have a table of 49,000 entries: they share no byte, or the last stands
 lists of a byte each: they share no byte, the last two share theirs, or all share one. In one lists stand eight deep, and each
 of 3,000 elements names the same next list. In seventeen clusters of lists stand in the elements of many rows, which are others
 in each cluster: long rows that end together, or short ones that lie anywhere. In two each list of thousands in lists is read
-in other rows. In four, thousands of lists in lists are read in rows of 64 strides, or each in thousands of rows of one element,
+in other rows. In nine, thousands of lists in lists are read in rows of 64 strides, or each in thousands of rows of one element,
 at the same place in it or at other ones. In the rest many variables or many rows name the same overlapping rows. Prints the
 seconds and the line of each.
 """
@@ -196,10 +196,11 @@ def chains_file(variables, depth, half):
     return rows_file(entries, range(1, variables + 1), rows, struct.pack("<%dH" % len(names), *names))
 
 
-def strides_file(variables, lists, least, each):
+def strides_file(variables, lists, least, each, third=0):
     """Variables that all name one row, of clusters of so many lists in lists. The lists of one place in it name as many rows as
-    it has clusters, of a stride of their own among 64, so that lists that stand side by side are read in rows of other strides."""
-    inner = [entry for j in range(lists) for entry in nest(2, 2 * j)]
+    it has clusters, of a stride of their own among 64, so that lists that stand side by side are read in rows of other strides.
+    Of as many lists as `third` tells one is three deep."""
+    inner = [entry for j in range(lists) for entry in nest(3 if third and j % third == 0 else 2, 2 * j)]
     entries = [entry for i in range(variables) for entry in [(7, 2 * i), (8, lists)] + inner]
     names = [2 + j % 64 * each + x for x in range(each) for j in range(lists)]
     behind = 2 * len(names)
@@ -209,13 +210,14 @@ def strides_file(variables, lists, least, each):
     return rows_file(entries, [1] * variables, rows, struct.pack("<%dH" % len(names), *names) + bytes(count))
 
 
-def table_file_of_rows(variables, rows):
-    """Variables eight deep that all name one row. Its elements, and the one element of each other row, are numbers in the table
-    of rows itself, so that each list is read in as many rows as there are."""
-    entries = sum((nest(8, 2 * i) for i in range(variables)), [])
+def own_table_file(entries, variables, rows, stride=2):
+    """A file of these entries whose variables all name one row. Its elements, and the one element of so many bytes of each
+    other row, are numbers in the table of rows itself, so that each list is read in as many rows as there are."""
     static = 2 * variables
     names = [(2 + (7 * r + 1) % (rows - 2), 2 + (11 * r + 5) % (rows - 2)) for r in range(rows)]
-    places = [(static, 10, rows), (static + 28, 10, rows - 3)] + [(static + 10 * r + 6, 2, 1) for r in range(2, rows)]
+    fitting = rows - stride // 10 - 10
+    numbers = [r if r < fitting else r * 7919 % fitting + 2 for r in range(2, rows)]
+    places = [(static, 10, rows), (static + 28, 10, rows - 3)] + [(static + 10 * r + 6, stride, 1) for r in numbers]
     dynamic = b"".join(struct.pack("<5H", *place, *name) for place, name in zip(places, names))
     size = static + len(dynamic)
     words = jump(0)
@@ -224,6 +226,20 @@ def table_file_of_rows(variables, rows):
     )
     table = b"".join(struct.pack("<BBH", code, 0, place) for code, place in entries)
     return head + table + struct.pack("<%dH" % variables, *[1] * variables) + dynamic + struct.pack("<BBH", 0, 0, 0) + words
+
+
+def own_rows_file(variables, rows, place, stride=2):
+    """Variables eight deep in rows of one element that are numbers in their own table. The list so many levels deep in
+    variable i stands at place(i, level) in an element."""
+    inner = [[(7, 0)] + [(7, place(i, level)) for level in range(6)] + [(1, 0)] for i in range(variables)]
+    entries = [entry for i in range(variables) for entry in [(7, 2 * i)] + inner[i]]
+    return own_table_file(entries, variables, rows, stride)
+
+
+def wide_file(lists, rows):
+    """One list of a cluster of so many lists, side by side, in rows of one element that are numbers in their own table."""
+    members = [entry for i in range(lists) for entry in [(7, 2 * i), (1, 0)]]
+    return own_table_file([(7, 0), (7, 0), (8, lists)] + members, 1, rows, 2 * lists)
 
 
 def offsets_file(variables, rows):
@@ -282,8 +298,13 @@ FILES = (
     ("1,000 chains of more rows", chains_file(1000, 8, 1200)),
     ("rows of 64 strides, six each", strides_file(53, 300, 16, 6)),
     ("the same, 20 of each", strides_file(53, 300, 40, 20)),
-    ("5,400 rows in their own table", table_file_of_rows(5400, 5400)),
+    ("of shorter strides", strides_file(53, 300, 16, 20, 64)),
+    ("5,400 rows in their own table", own_rows_file(5400, 5400, lambda i, level: 0)),
     ("lists at 64 places", offsets_file(5300, 3800)),
+    ("the same, 5,400 rows in theirs", own_rows_file(5400, 5400, lambda i, level: 10 * (i % 64), 641)),
+    ("at other places at each level", own_rows_file(5400, 5400, lambda i, level: 10 * ((i + level) * (i + 7) % 64), 641)),
+    ("at two places in turn", own_rows_file(5400, 5400, lambda i, level: 10 * (i % 2), 641)),
+    ("16,300 lists in a cluster", wide_file(16300, 6500)),
 )
 
 
