@@ -7,7 +7,7 @@ Two files have a table of 49,000 entries: they share no byte, or the last stands
 lists of a byte each: they share no byte, the last two share theirs, or all share one. In one lists stand eight deep, and each
 of 3,000 elements names the same next list. In seventeen clusters of lists stand in the elements of many rows, which are others
 in each cluster: long rows that end together, or short ones that lie anywhere. In two each list of thousands in lists is read
-in other rows. In nine, thousands of lists in lists are read in rows of 64 strides, or each in thousands of rows of one element,
+in other rows. In ten, thousands of lists in lists are read in rows of 64 strides, or each in thousands of rows of one element,
 at the same place in it or at other ones. In the rest many variables or many rows name the same overlapping rows. Prints the
 seconds and the line of each.
 """
@@ -299,6 +299,7 @@ FILES = (
     ("rows of 64 strides, six each", strides_file(53, 300, 16, 6)),
     ("the same, 20 of each", strides_file(53, 300, 40, 20)),
     ("of shorter strides", strides_file(53, 300, 16, 20, 64)),
+    ("250 clusters of 64 strides", strides_file(250, 64, 128, 60)),
     ("5,400 rows in their own table", own_rows_file(5400, 5400, lambda i, level: 0)),
     ("lists at 64 places", offsets_file(5300, 3800)),
     ("the same, 5,400 rows in theirs", own_rows_file(5400, 5400, lambda i, level: 10 * (i % 64), 641)),

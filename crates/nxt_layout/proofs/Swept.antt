@@ -16,5 +16,7 @@ pub mod Strided
 pub mod RowSums
 -- How often a place is among those of the elements that are read.
 pub mod RowPlaces
+-- The runs of lanes with few places, turn by turn.
+pub mod FewRuns
 -- The runs of a lane have the places of the elements that are read in it.
 pub mod RowRuns

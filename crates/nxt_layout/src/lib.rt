@@ -7,6 +7,7 @@ mod counters;
 mod dataspace;
 mod edges;
 pub mod fault;
+mod few;
 pub mod layout;
 mod marks;
 mod names;

@@ -9,7 +9,7 @@ use crate::edges::{Edge, edges_of};
 use crate::reads::reads_of;
 use crate::sweep::swept;
 use crate::table_rows::{TableRow, likes_of, rows_of};
-use crate::turns::{Turns, many_lanes};
+use crate::turns::Turns;
 use nxt_types::NoMemory;
 use std::alloc::Global;
 
@@ -54,13 +54,7 @@ impl RowTable {
     {
         let reads = reads_of(alloc, self.rows.as_slice(), named, bytes)?;
         let turns = swept(alloc, self.edges.as_slice(), reads.rows.as_slice())?;
-        let many = many_lanes(&turns);
-        let few = Turns::few_runs(alloc, &turns, many, &reads.strides)?;
-        Ok(Turns {
-            strides: reads.strides,
-            many,
-            turns,
-            few,
-        })
+        let all = Turns::of(alloc, reads.strides, turns)?;
+        Ok(all)
     }
 }

@@ -1,6 +1,6 @@
 // Places of elements as runs.
 
-ghost use Rattle.std.specs.Prelude.{◌∷◌, [], IfOk};
+ghost use Rattle.std.specs.Prelude.{◌≡◌, ◌∷◌, [], IfOk};
 ghost use Rattle.nxt_layout.specs.Inside.Runs.{AreRuns};
 
 use nxt_types::NoMemory;
@@ -22,10 +22,14 @@ pub struct Runs {
 }
 
 impl Runs {
-    /// No places.
-    pub fn none(alloc: Global) -> Runs {
+    /// No places, of those that are so many bytes apart.
+    pub fn none(alloc: Global, stride: u32) -> Runs
+        ensures stride { result.stride ≡ stride }
+        ensures once { result.once.items ≡ [] }
+        ensures twice { result.twice.items ≡ [] }
+    {
         Runs {
-            stride: 1,
+            stride,
             once: Vec::new(alloc),
             twice: Vec::new(alloc),
         }

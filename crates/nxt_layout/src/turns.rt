@@ -5,7 +5,8 @@ ghost use Rattle.std.specs.Int.{bit_at};
 ghost use Rattle.nxt_layout.specs.Inside.Marks.{mark};
 
 use crate::bits::Bits;
-use crate::runs::{Run, Runs};
+use crate::few::few_runs;
+use crate::runs::Runs;
 use nxt_types::NoMemory;
 use std::alloc::Global;
 
@@ -30,7 +31,7 @@ pub struct Turns {
 }
 
 impl Turns {
-    ghost use Rattle.nxt_layout.specs.Inside.Turns.{AreRunsIn, track};
+    ghost use Rattle.nxt_layout.specs.Inside.Turns.{AreRunsIn};
 
     /// No places, in no lane.
     pub fn none(alloc: Global) -> Turns
@@ -44,77 +45,29 @@ impl Turns {
         }
     }
 
-    /// The runs of the lanes that aren't among the ones with many places, by how many bytes the places of each lane are apart.
-    pub fn few_runs(
-        alloc: Global,
-        turns: &[Turn],
-        many: u64,
-        strides: &[u32],
-    ) -> Result<Vec<Runs>, NoMemory>
-        requires { length strides.now ≤ 64 }
-        ensures count { IfOk result (λ few. length few.items ≡ length strides.now) }
-        ensures few { IfOk result (λ few. (k : ℕ) (r : Runs) → bit_at many k ≡ 0 → slice_get few.items k ≡ Some r → AreRunsIn turns.now (slice_index strides.now k) k r) }
+    /// The turns of lanes whose places are so many bytes apart.
+    pub fn of(alloc: Global, strides: Vec<u32>, turns: Vec<Turn>) -> Result<Turns, NoMemory>
+        requires { length strides.items ≤ 64 }
+        ensures strides { IfOk result (λ of. of.strides ≡ strides) }
+        ensures turns { IfOk result (λ of. of.turns ≡ turns) }
+        ensures few { IfOk result (λ of. (k : ℕ) (r : Runs) → bit_at of.many k ≡ 0 → slice_get of.few.items k ≡ Some r → AreRunsIn of.turns.items (slice_index of.strides.items k) k r) }
     {
-        let mut few: Vec<Runs> = Vec::with_capacity(alloc, strides.len())?;
-        for lane in 0..strides.len() {
-            few.push(Turns::runs_of(alloc, turns, many, lane as u32, strides[lane])?)?;
-        }
-        Ok(few)
-    }
-
-    // The runs of a lane whose places are so many bytes apart, or none where it is among the ones with many.
-    fn runs_of(
-        alloc: Global,
-        turns: &[Turn],
-        many: u64,
-        lane: u32,
-        stride: u32,
-    ) -> Result<Runs, NoMemory>
-        requires { lane < 64 }
-        ensures { bit_at many lane ≡ 0 → IfOk result (AreRunsIn turns.now stride lane) }
-    {
-        if many >> lane & 1 == 1 {
-            return Ok(Runs::none(alloc));
-        }
-        Ok(Runs {
-            stride,
-            once: Turns::runs_in(alloc, turns, false, lane)?,
-            twice: Turns::runs_in(alloc, turns, true, lane)?,
+        let many = many_lanes(&turns);
+        let few = few_runs(alloc, &turns, many, &strides)?;
+        Ok(Turns {
+            strides,
+            many,
+            turns,
+            few,
         })
-    }
-
-    // A lane's runs of places with one element or more, or with several.
-    fn runs_in(
-        alloc: Global,
-        turns: &[Turn],
-        several: bool,
-        lane: u32,
-    ) -> Result<Vec<Run>, NoMemory>
-        requires { lane < 64 }
-        ensures { IfOk result (λ runs. runs.items ≡ (track several lane turns.now).lane.runs) }
-    {
-        let mut runs: Vec<Run> = Vec::new(alloc);
-        let mut from: u32 = 0;
-        let mut begun = false;
-        for turn in turns {
-            if turn.marks.is_marked(several, lane) {
-                if begun {
-                    runs.push(Run { from, end: turn.at })?;
-                } else {
-                    from = turn.at;
-                }
-                begun = !begun;
-            }
-        }
-        Ok(runs)
     }
 }
 
 // So many places in all lanes of a stride are marked one by one; of more, only those at which they turn.
 const FEW: u64 = 16384;
 
-/// The lanes in whose stride there are more than few places. Which lanes these are makes no difference to what is found.
-pub fn many_lanes(turns: &[Turn]) -> u64 {
+// The lanes in whose stride there are more than few places. Which lanes these are makes no difference to what is found.
+fn many_lanes(turns: &[Turn]) -> u64 {
     let mut many = 0;
     let mut lanes: u64 = 0;
     let mut bytes: u64 = 0;

@@ -1,5 +1,5 @@
 -- The turns of a lane have the places of the elements that are read in it.
-use Rattle.std.proofs.Common.{◌≡◌, ℕ, ◌+◌, ◌-◌, ◌*◌, ◌%◌, ◌^◌, ◌<◌, ◌≤◌, Bool, true, false, ◌&&◌, ◌==◌, nat_lt, nat_le, min, List, [], ◌∷◌, map, flat_map, All, get_or, inl, inr, if◌then◌else◌, refl, sym, ap, ap₂, ◌∙◌, subst, arith, eq-eqb, ne_eqb}
+use Rattle.std.proofs.Common.{◌++◌, ◌≡◌, ℕ, ◌+◌, ◌-◌, ◌*◌, ◌%◌, ◌^◌, ◌<◌, ◌≤◌, Bool, true, false, ◌&&◌, ◌==◌, nat_lt, nat_le, min, List, [], ◌∷◌, map, flat_map, All, get_or, inl, inr, if◌then◌else◌, refl, sym, ap, ap₂, ◌∙◌, subst, arith, eq-eqb, ne_eqb}
 use Rattle.std.specs.Prelude.{slice_get, slice_index, Some}
 use Rattle.std.proofs.lemmas.Bool.{and_from, and_left, and_right, cases_lt, cases_order, le-leb, lt-leb, lt-ltb, le-ltb}
 use Rattle.std.proofs.lemmas.List.Elements.{recursion_from_All, All-from_recursion, All-map}
@@ -20,7 +20,7 @@ use Rattle.nxt_layout.specs.Rows.{Ground, row, row_end, has_elements, read_by, e
 use Rattle.nxt_layout.specs.Inside.RowPasses.{times}
 use Rattle.nxt_layout.specs.Inside.Lanes.{Tells, no_bits}
 use Rattle.nxt_layout.specs.Inside.Runs.{is_in, covers, IsRun, HaveRuns, AreRuns}
-use Rattle.nxt_layout.specs.Inside.Turns.{track, AreRunsIn, AreTurns}
+use Rattle.nxt_layout.specs.Inside.Turns.{Track, track, listed, AreRunsIn, AreTurns}
 use Rattle.nxt_layout.specs.Inside.Counts.{weight}
 use Rattle.nxt_layout.specs.Inside.Edges.{IsEdge, AreEdges, order_of, is_edged, first_edge, last_edge, key_of}
 use Rattle.nxt_layout.specs.Inside.Leads.{lead_before, stride_by, times_read}
@@ -208,16 +208,23 @@ covers_none s q rs past = tally_is (is_in s q) (map run_of rs) ∙ total-map (λ
 abbrev line₀ : Line
 line₀ = record { count = 0; from = 0; runs = [] }
 
+-- a lane whose last run has ended
+listed_shut : (s : Track) → s.begun ≡ 0 → listed s ≡ s.lane.runs
+listed_shut s shut = ap (λ n. if n == 1 then s.lane.runs ++ record { from = s.lane.from; end = s.lane.from } ∷ [] else s.lane.runs) shut
+
 -- runs that are listed
-runs_in : {bases : List ℕ} {turns : List Turn} {d k : ℕ} {r : Runs} → HaveRuns bases d (track false k turns).lane.runs (track true k turns).lane.runs → AreRunsIn turns d k r → AreRuns bases r
-runs_in {bases = bases} {turns = turns} {d = d} {k = k} {r = r} have is =
+runs_in : {bases : List ℕ} {turns : List Turn} {d k : ℕ} {r : Runs} → ((t : Bool) → (track t k turns).begun ≡ 0) → HaveRuns bases d (track false k turns).lane.runs (track true k turns).lane.runs → AreRunsIn turns d k r → AreRuns bases r
+runs_in {bases = bases} {turns = turns} {d = d} {k = k} {r = r} shut have is =
     subst
     (λ n. HaveRuns bases n r.once.items r.twice.items)
     (sym is.stride)
     (subst
     (λ x. HaveRuns bases d x r.twice.items)
-    (sym is.once)
-    (subst (λ x. HaveRuns bases d (track false k turns).lane.runs x) (sym is.twice) have))
+    (sym (is.listed.once ∙ listed_shut (track false k turns) (shut false)))
+    (subst
+    (λ x. HaveRuns bases d (track false k turns).lane.runs x)
+    (sym (is.listed.twice ∙ listed_shut (track true k turns) (shut true)))
+    have))
 
 module _ (g : Ground) (edges : List Edge) (are : AreEdges g edges) (few : row_count g.memory < 2 ^ 16) (reads : List Bits) (k bytes : ℕ) (among : List ℕ) (some : 0 < bytes) (below : Each (λ r. r < row_count g.memory) among) (told : (r : ℕ) → r < row_count g.memory → has_elements g r ≡ true → Tells (get_or reads r no_bits) k (times_read g bytes among r))
   where
@@ -408,11 +415,11 @@ module _ (g : Ground) (edges : List Edge) (are : AreEdges g edges) (few : row_co
 
     -- the turns of the sweep
     pub are_turns : (ts : Turns) → slice_index ts.strides.items k ≡ s → ((t : Bool) → track t k ts.turns.items ≡ tracked t (passed reads k edges)) → ((r : Runs) → bit_at ts.many k ≡ 0 → slice_get ts.few.items k ≡ Some r → AreRunsIn ts.turns.items (slice_index ts.strides.items k) k r) → AreTurns (flat_map (elements_of g) (read_by g bytes among)) k ts
-    are_turns ts stride is listed =
+    are_turns ts stride is in_few =
         record {
           shut = shut;
           runs = runs;
-          few = λ r few at. runs_in runs (listed r few at);
+          few = λ r few at. runs_in shut runs (in_few r few at);
         }
       where
         runs : HaveRuns (flat_map (elements_of g) (read_by g bytes among)) (slice_index ts.strides.items k) (track false k ts.turns.items).lane.runs (track true k ts.turns.items).lane.runs

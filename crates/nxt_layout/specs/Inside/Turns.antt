@@ -2,6 +2,7 @@
 use Rattle.std.specs.Prelude.{ℕ, ◌+◌, ◌-◌, ◌≡◌, ◌==◌, Bool, true, false, List, [], ◌∷◌, ◌++◌, slice_get, slice_index, Some, sum_by, min, if◌then◌else◌}
 use Rattle.std.specs.Int.{bit_at}
 use Rattle.std.specs.List.{fold}
+use Rattle.nxt_layout.specs.declared.bits.Bits.{Bits}
 use Rattle.nxt_layout.specs.declared.runs.Run.{Run}
 use Rattle.nxt_layout.specs.declared.runs.Runs.{Runs}
 use Rattle.nxt_layout.specs.declared.turns.Turn.{Turn}
@@ -28,20 +29,36 @@ pub record Track : Type 0 where
   pub begun : ℕ
   pub lane : Lane
 
--- with one turn more
+-- with a turn at this place
+abbrev pub turned : ℕ → Track → Track
+turned at s = record { begun = 1 - s.begun; lane = turn s.begun (1 - s.begun) at s.lane }
+
+-- with one turn more, where it is one of this lane
 abbrev pub tracked_by : Bool → ℕ → Track → Turn → Track
-tracked_by t k s e =
-    if mark t e.marks k == 1 then record { begun = 1 - s.begun; lane = turn s.begun (1 - s.begun) e.at s.lane } else s
+tracked_by t k s e = if mark t e.marks k == 1 then turned e.at s else s
 
 -- by all turns: of places with one or more, or of those with several
 abbrev pub track : Bool → ℕ → List Turn → Track
 track t k turns = fold (tracked_by t k) (record { begun = 0; lane = record { from = 0; runs = [] } }) turns
 
+-- its runs, and behind them the last one where it has not ended
+abbrev pub listed : Track → List Run
+listed s = if s.begun == 1 then s.lane.runs ++ record { from = s.lane.from; end = s.lane.from } ∷ [] else s.lane.runs
+
+-- these are the runs so far, of places with one or more and of those with several
+pub record AreListed (a b : Track) (r : Runs) : Type 0 where
+  pub once : r.once.items ≡ listed a
+  pub twice : r.twice.items ≡ listed b
+
+-- the bits tell which of the lane's last runs have not ended
+pub record IsTracked (begun : Bits) (k : ℕ) (a b : Track) : Type 0 where
+  pub once : a.begun ≡ mark false begun k
+  pub twice : b.begun ≡ mark true begun k
+
 -- in this lane, whose places are so many bytes apart, they have these runs
 pub record AreRunsIn (turns : List Turn) (bytes k : ℕ) (r : Runs) : Type 0 where
   pub stride : r.stride ≡ bytes
-  pub once : r.once.items ≡ (track false k turns).lane.runs
-  pub twice : r.twice.items ≡ (track true k turns).lane.runs
+  pub listed : AreListed (track false k turns) (track true k turns) r
 
 -- in this lane they have these places, and where these are few, its runs are listed
 pub record AreTurns (bases : List ℕ) (k : ℕ) (ts : Turns) : Type 0 where

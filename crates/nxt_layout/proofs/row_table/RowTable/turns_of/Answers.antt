@@ -1,5 +1,5 @@
 -- Where each lane turns.
-use Rattle.std.proofs.Common.{◌≡◌, ℕ, ◌<◌, List, get_or, true, sym, subst, arith}
+use Rattle.std.proofs.Common.{ap, ◌∙◌, ◌≡◌, ℕ, ◌<◌, get_or, true, sym, subst, arith}
 use Rattle.std.specs.Prelude.{slice_index}
 use Rattle.std.proofs.lemmas.List.Elements.{recursion_from_All}
 use Rattle.nxt_model.specs.Reading.{row_count}
@@ -8,7 +8,7 @@ use Rattle.nxt_layout.specs.Inside.Lanes.{Tells, no_bits}
 use Rattle.nxt_layout.specs.Inside.Leads.{AreTableRows, times_read}
 use Rattle.nxt_layout.specs.Inside.Edges.{AreEdges}
 use Rattle.nxt_layout.specs.Inside.Sweeps.{nothing_yet}
-use Rattle.nxt_layout.specs.Inside.Turns.{AreRunsIn}
+use Rattle.nxt_layout.specs.Inside.Turns.{track}
 use Rattle.nxt_layout.proofs.Swept.Line.{safe_along}
 use Rattle.nxt_layout.proofs.Swept.RowRuns.{safe, are_turns}
 use Rattle.nxt_layout.proofs.row_table.RowTable.turns_of.Goals as goal
@@ -26,13 +26,8 @@ returns-clause-turns c g is k rows within some has =
     λ q less full. subst (λ bs. Tells (get_or bs q no_bits) k (times_read g (slice_index bytes k) rows q)) (sym c.as_slice-3.ensures.value) (read.rows q less full) in
     let below = recursion_from_All (λ q. q < row_count g.memory) rows has.below in
     let sure = safe_along bits k edges nothing_yet (safe g edges edges_are is.few bits k (slice_index bytes k) rows some below told) in
-    are_turns g edges edges_are is.few bits k (slice_index bytes k) rows some below told _ read.stride
-    (λ t. c.in_ok-turns.ensures t k small sure)
-    (λ r few at.
-    subst
-    (λ es. AreRunsIn es (slice_index c.in_ok-reads.reads.strides.items k) k r)
-    c.deref-2.ensures.value
-    (subst
-    (λ (bs : List ℕ). AreRunsIn c.deref-2.result.now (slice_index bs k) k r)
-    c.deref-3.ensures.value
-    (c.in_ok-few.ensures.few k r few at)))
+    let all = c.in_ok-all.all in
+    are_turns g edges edges_are is.few bits k (slice_index bytes k) rows some below told all
+    (ap (λ v. slice_index v.items k) c.in_ok-all.ensures.strides ∙ read.stride)
+    (λ t. ap (λ v. track t k v.items) c.in_ok-all.ensures.turns ∙ c.in_ok-turns.ensures t k small sure)
+    (λ r few at. c.in_ok-all.ensures.few k r few at)
