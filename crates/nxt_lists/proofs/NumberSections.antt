@@ -1,7 +1,7 @@
 -- The bytes of a list of numbers, cut and joined.
-use Rattle.std.proofs.Common.{◌≡◌, ℕ, ◌+◌, ◌-◌, ◌*◌, ◌/◌, ◌%◌, ◌≤◌, min, List, [], ◌∷◌, ◌++◌, map, length, replicate, drop, length-take, length-drop, refl, sym, ap, ap₂, ◌∙◌, subst, arith, length-append, take}
+use Rattle.std.proofs.Common.{◌≡◌, ℕ, ◌+◌, ◌-◌, ◌*◌, ◌/◌, ◌%◌, ◌≤◌, min, List, [], ◌∷◌, ◌++◌, map, length, replicate, drop, length-take, length-drop, refl, sym, ap, ap₂, ◌∙◌, subst, arith, length-append, take, zero, suc, ◌⊎◌, inl, inr}
 use Rattle.std.specs.Prelude.{pos, slice_range}
-use Rattle.std.proofs.lemmas.List.{map-append, replicate_more, take_min}
+use Rattle.std.proofs.lemmas.List.{map-append, replicate_more, replicate-append-replicate, take_min}
 use Rattle.nxt_types.specs.Arithmetic.{leaf_size, word}
 use Rattle.nxt_types.specs.Shapes.{Number}
 use Rattle.nxt_types.specs.declared.kind.Kind.{Kind}
@@ -136,3 +136,44 @@ copy_stored k xs ys n w v is e more =
     (λ bytes. AreStored k bytes (replicate (n + 1) v))
     (sym more)
     (subst (AreStored k (xs ++ bytes_of_number k (pos w))) (replicate_more n v) (more_stored k xs (bytes_of_number k (pos w)) (replicate n v) (v ∷ []) e (one_stored k w v is)))
+
+-- a number whose bytes are all alike
+pub number_filled : (k : Kind) (w : ℕ) → (leaf_size k ≡ 1) ⊎ (w ≡ 0) → bytes_of_number k (pos w) ≡ replicate (leaf_size k) (w % 256)
+number_filled Ubyte w alike = let same : w % 4294967296 % 256 ≡ w % 256 = omega arith in ap (λ b. b ∷ []) same
+number_filled Sbyte w alike = let same : w % 4294967296 % 256 ≡ w % 256 = omega arith in ap (λ b. b ∷ []) same
+number_filled Uword w (inl not_one) = absurd (omega (arith, not_one))
+number_filled Uword w (inr none) = ap (λ n. bytes_of_number Uword (pos n)) none ∙ ap (λ n. replicate 2 (n % 256)) (sym none)
+number_filled Sword w (inl not_one) = absurd (omega (arith, not_one))
+number_filled Sword w (inr none) = ap (λ n. bytes_of_number Sword (pos n)) none ∙ ap (λ n. replicate 2 (n % 256)) (sym none)
+number_filled Ulong w (inl not_one) = absurd (omega (arith, not_one))
+number_filled Ulong w (inr none) = ap (λ n. bytes_of_number Ulong (pos n)) none ∙ ap (λ n. replicate 4 (n % 256)) (sym none)
+number_filled Slong w (inl not_one) = absurd (omega (arith, not_one))
+number_filled Slong w (inr none) = ap (λ n. bytes_of_number Slong (pos n)) none ∙ ap (λ n. replicate 4 (n % 256)) (sym none)
+
+no_bytes : (k : Kind) → 0 * leaf_size k ≡ 0
+no_bytes Ubyte = refl
+no_bytes Sbyte = refl
+no_bytes Uword = refl
+no_bytes Sword = refl
+no_bytes Ulong = refl
+no_bytes Slong = refl
+
+more_bytes : (k : Kind) (n : ℕ) → suc n * leaf_size k ≡ n * leaf_size k + leaf_size k
+more_bytes Ubyte n = omega arith
+more_bytes Sbyte n = omega arith
+more_bytes Uword n = omega arith
+more_bytes Sword n = omega arith
+more_bytes Ulong n = omega arith
+more_bytes Slong n = omega arith
+
+pub copies_filled : (k : Kind) (w n : ℕ) (v : Value) → bytes_of_number k (pos w) ≡ replicate (leaf_size k) (w % 256) → w ≡ word (number v) → AreStored k (replicate (n * leaf_size k) (w % 256)) (replicate n v)
+copies_filled k w zero v alike is = subst (λ m. AreStored k (replicate m (w % 256)) []) (sym (no_bytes k)) (nothing_stored k)
+copies_filled k w (suc n) v alike is =
+    let more : n + 1 ≡ suc n = omega arith in
+    subst
+    (λ m. AreStored k (replicate (suc n * leaf_size k) (w % 256)) (replicate m v))
+    more
+    (copy_stored k (replicate (n * leaf_size k) (w % 256)) (replicate (suc n * leaf_size k) (w % 256)) n w v is (copies_filled k w n v alike is)
+    (ap (λ m. replicate m (w % 256)) (more_bytes k n)
+    ∙ sym (replicate-append-replicate (n * leaf_size k) (leaf_size k) (w % 256))
+    ∙ ap (λ bs. replicate (n * leaf_size k) (w % 256) ++ bs) (sym alike)))

@@ -1,10 +1,11 @@
 // Lists of numbers that stand one behind another, stored by their bytes.
 
-ghost use Rattle.std.specs.Prelude.{◌≡◌, ◌≤◌, ◌<◌, ◌+◌, ◌^◌, ◌%◌, ◌++◌, ℕ, List, length, replicate, slice_range, slice_set, IfOk, OnOk, ◌∷◌, []};
+ghost use Rattle.std.specs.Prelude.{◌≡◌, ◌≤◌, ◌<◌, ◌+◌, ◌^◌, ◌%◌, ◌++◌, ℕ, List, length, replicate, slice_range, slice_set, IfOk, OnOk, ◌∷◌, [], true, pos};
 ghost use Rattle.nxt_types.specs.Arithmetic.{leaf_size as size_of_leaf};
 ghost use Rattle.nxt_types.specs.Pool.{pool_size};
 ghost use Rattle.nxt_model.specs.Means.Arrays.{overwritten};
 ghost use Rattle.nxt_model.specs.Values.{Value, elements, list_of, stored, word_of};
+ghost use Rattle.nxt_values.specs.Writes.{bytes_of_number};
 ghost use Rattle.nxt_space.specs.Keeping.{Leaves};
 ghost use Rattle.nxt_space.specs.Outcomes.{Does};
 ghost use Rattle.nxt_space.specs.Spots.{IsSpot, IsListSpot};
@@ -156,11 +157,22 @@ pub fn store_copies(
 fn bytes_of_copies(alloc: Global, kind: Kind, word: u32, count: u32) -> Result<Bytes, NoMemory>
     ensures { IfOk result (λ bytes. (v : Value) → word ≡ word_of v → AreStored kind bytes (replicate count v)) }
 {
+    if are_alike(kind, word) {
+        let size = count as usize * leaf_size(kind) as usize;
+        return Ok(Bytes::from_vec(vec![in alloc; word.to_le_bytes()[0]; size]?));
+    }
     let mut bytes = Bytes::new(alloc);
     for _ in 0..count {
         push_number(&mut bytes, kind, word)?;
     }
     Ok(bytes)
+}
+
+// Whether the bytes of a number of a kind are all alike, since it has one byte or is 0.
+fn are_alike(kind: Kind, word: u32) -> bool
+    ensures { result ≡ true → bytes_of_number kind (pos word) ≡ replicate (size_of_leaf kind) (word % 256) }
+{
+    leaf_size(kind) == 1 || word == 0
 }
 
 /// Gives a list the numbers that stand in bytes.
