@@ -8,10 +8,10 @@ use Rattle.nxt_model.specs.Assembled.{all_shapes, arrays_in}
 use Rattle.nxt_model.specs.declared.nbc.NbcProgram.{NbcProgram}
 use Rattle.nxt_model.specs.declared.nbc.NbcStruct.{NbcStruct}
 use Rattle.nxt_model.specs.declared.nbc.NbcVar.{NbcVar}
-use Rattle.nxt_parts.specs.Defaults.{StartFits, variable_of}
-use Rattle.nxt_limits.specs.AsmRules.{start_footprint}
-use Rattle.nxt_limits.specs.StartBytes.{start_bytes}
-use Rattle.nxt_limits.proofs.Laws.StartFootprint.{footprint_counted}
+use Rattle.nxt_asm_parts.specs.Defaults.{StartFits, variable_of}
+use Rattle.nxt_asm_rules.specs.AsmRules.{start_footprint}
+use Rattle.nxt_asm_rules.specs.StartBytes.{start_bytes}
+use Rattle.nxt_asm_rules.proofs.Laws.StartFootprint.{footprint_counted}
 
 -- one text more
 pub text_more : (ts : List (List ℕ)) (i : ℕ) (so_far one next : ℕ) → i < length ts → so_far ≡ sum_by (λ text. round4 (length text + 1)) (take i ts)

@@ -8,14 +8,14 @@ use Rattle.nxt_model.specs.TextProgram.{shape_by, struct_shapes, text_of}
 use Rattle.nxt_model.specs.declared.nbc.NbcProgram.{NbcProgram}
 use Rattle.nxt_model.specs.declared.nbc.NbcStruct.{NbcStruct}
 use Rattle.nxt_model.specs.declared.nbc.NbcType.{NbcType}
-use Rattle.nxt_parts.specs.Elements.{first_large, large_in}
-use Rattle.nxt_parts.specs.Measures.{held, measure_of}
-use Rattle.nxt_parts.specs.declared.measure.Measure.{Measure}
-use Rattle.nxt_parts.proofs.Laws.LargeElements.{elements_listed}
-use Rattle.nxt_limits.specs.AsmRules.{large_element}
+use Rattle.nxt_asm_parts.specs.Elements.{first_large, large_in}
+use Rattle.nxt_asm_parts.specs.Measures.{held, measure_of}
+use Rattle.nxt_asm_parts.specs.declared.measure.Measure.{Measure}
+use Rattle.nxt_asm_parts.proofs.Laws.LargeElements.{elements_listed}
+use Rattle.nxt_asm_rules.specs.AsmRules.{large_element}
 use Rattle.nxt_asm.specs.Drafts.{AreCounted}
-use Rattle.nxt_limits.proofs.Laws.Counts.{static_sum}
-use Rattle.nxt_limits.proofs.Laws.Sums.{arrays_among-members, sizes-members}
+use Rattle.nxt_asm_rules.proofs.Laws.Counts.{static_sum}
+use Rattle.nxt_asm_rules.proofs.Laws.Sums.{arrays_among-members, sizes-members}
 
 -- the shapes of these types are those of all variables and constants
 pub shapes_seen_in : (p : NbcProgram) (structs : List NbcStruct) (types view : List NbcType) → structs ≡ p.structs

@@ -6,8 +6,8 @@ use Rattle.nxt_model.specs.TextProgram.{constants, shape_by, static_size, struct
 use Rattle.nxt_model.specs.declared.nbc.NbcProgram.{NbcProgram}
 use Rattle.nxt_model.specs.declared.nbc.NbcStruct.{NbcStruct}
 use Rattle.nxt_model.specs.declared.nbc.NbcType.{NbcType}
-use Rattle.nxt_parts.specs.Constants.{AllConstants}
-use Rattle.nxt_parts.specs.Starts.{blocks_starts}
+use Rattle.nxt_asm_parts.specs.Constants.{AllConstants}
+use Rattle.nxt_asm_parts.specs.Starts.{blocks_starts}
 
 -- the structs, the constants, the words at which statements begin, and the types of all that the table has
 pub record IsFound (p : NbcProgram) (structs : List NbcStruct) (all : AllConstants) (starts : List (List ℕ)) (types : List NbcType) : Type 0 where

@@ -1,10 +1,10 @@
 // A program with what its image is made from.
 
 ghost use Rattle.std.specs.Prelude.{◌≡◌, ◌+◌, ℕ, IfOk};
-ghost use Rattle.nxt_parts.specs.Measures.{held};
+ghost use Rattle.nxt_asm_parts.specs.Measures.{held};
 
+use nxt_asm_parts::{Constants, Measures, Starts, measure_together, types_of};
 use nxt_model::nbc::{NbcProgram, NbcTypes};
-use nxt_parts::{Constants, Measures, Starts, measure_together, types_of};
 use nxt_types::NoMemory;
 use std::alloc::Global;
 use std::marker::Model;

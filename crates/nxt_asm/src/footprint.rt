@@ -3,13 +3,13 @@
 ghost use Rattle.std.specs.Prelude.{◌≡◌, ◌<◌, ◌+◌, ◌*◌, [], All, IfOk, length, slice_index_or, sum_by};
 ghost use Rattle.nxt_types.specs.Pool.{round4 as rounded};
 ghost use Rattle.nxt_model.specs.TextProgram.{text_of};
-ghost use Rattle.nxt_parts.specs.Defaults.{StartFits, variable_of};
-ghost use Rattle.nxt_limits.specs.AsmRules.{start_footprint};
-ghost use Rattle.nxt_limits.specs.StartBytes.{start_bytes};
+ghost use Rattle.nxt_asm_parts.specs.Defaults.{StartFits, variable_of};
+ghost use Rattle.nxt_asm_rules.specs.AsmRules.{start_footprint};
+ghost use Rattle.nxt_asm_rules.specs.StartBytes.{start_bytes};
 
 use crate::draft::Draft;
+use nxt_asm_parts::{Constants, kind_of};
 use nxt_model::nbc::{NbcStart, NbcStruct, NbcVar};
-use nxt_parts::{Constants, kind_of};
 use nxt_types::NoMemory;
 use nxt_types::numbers::leaf_size;
 use nxt_types::pool::{ROW_BYTES, round4};

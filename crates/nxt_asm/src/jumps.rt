@@ -3,12 +3,12 @@
 ghost use Rattle.std.specs.Prelude.{◌≡◌, ◌==◌, ◌&&◌, ℕ};
 ghost use Rattle.std.specs.List.{list_any};
 ghost use Rattle.nxt_model.specs.Assembled.{starts_from};
-ghost use Rattle.nxt_limits.specs.AsmRules.{is_far, jumps_far, far_in_body, far_in_blocks};
-ghost use Rattle.nxt_forms.specs.Firsts.{IsLeast, lesser};
-ghost use Rattle.nxt_parts.specs.Starts.{blocks_starts};
+ghost use Rattle.nxt_asm_rules.specs.AsmRules.{is_far, jumps_far, far_in_body, far_in_blocks};
+ghost use Rattle.nxt_nbc_lines.specs.Firsts.{IsLeast, lesser};
+ghost use Rattle.nxt_asm_parts.specs.Starts.{blocks_starts};
 
+use nxt_asm_parts::{Starts, word_at};
 use nxt_model::nbc::{NbcArg, NbcBlock, NbcStatement};
-use nxt_parts::{Starts, word_at};
 
 /// The least line with a jump that is too far.
 pub fn far_jump(blocks: &[NbcBlock], starts: &Starts) -> Option<u32>

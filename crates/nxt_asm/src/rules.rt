@@ -3,14 +3,14 @@
 ghost use Rattle.std.specs.Prelude.{◌≡◌, All, IfErr, IfOk, OnOk};
 ghost use Rattle.nxt_types.specs.Refusals.{IsAccepted};
 ghost use Rattle.nxt_model.specs.TextProgram.{text_of};
-ghost use Rattle.nxt_parts.specs.Defaults.{StartFits};
-ghost use Rattle.nxt_limits.specs.AsmRules.{Broken, start_footprint};
-ghost use Rattle.nxt_limits.specs.Kept.{KeepsJumps, KeepsSize, KeepsSizes, Refuses};
+ghost use Rattle.nxt_asm_parts.specs.Defaults.{StartFits};
+ghost use Rattle.nxt_asm_rules.specs.AsmRules.{Broken, start_footprint};
+ghost use Rattle.nxt_asm_rules.specs.Kept.{KeepsJumps, KeepsSize, KeepsSizes, Refuses};
 
 use crate::draft::{Draft, exact};
 use crate::footprint::footprint;
 use crate::jumps::far_jump;
-use nxt_limits::AsmFault;
+use nxt_asm_rules::AsmFault;
 use nxt_types::NoMemory;
 use nxt_types::pool::POOL_BYTES;
 use nxt_types::words::MOST_ENTRIES;

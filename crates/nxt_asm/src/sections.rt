@@ -3,12 +3,12 @@
 ghost use Rattle.std.specs.Prelude.{◌≡◌, ◌≤◌, length, IfOk};
 ghost use Rattle.nxt_model.specs.Assembled.{assembled};
 ghost use Rattle.nxt_model.specs.TextProgram.{text_of};
-ghost use Rattle.nxt_parts.specs.AssembledParts.{dynamic_defaults, header_of, parts_of, static_defaults};
-ghost use Rattle.nxt_parts.specs.Sound.{IsSound};
-ghost use Rattle.nxt_limits.specs.Fits.{PartsFit};
+ghost use Rattle.nxt_asm_parts.specs.AssembledParts.{dynamic_defaults, header_of, parts_of, static_defaults};
+ghost use Rattle.nxt_asm_parts.specs.Sound.{IsSound};
+ghost use Rattle.nxt_asm_rules.specs.Fits.{PartsFit};
 
 use crate::draft::Draft;
-use nxt_parts::{
+use nxt_asm_parts::{
     Numbers, clump_dependents, clump_records, code_of, dynamic_defaults_of, static_defaults_of,
     table_of,
 };

@@ -3,8 +3,8 @@
 #![tactic(auto)]
 
 use nxt_asm::assemble;
-use nxt_forms::LONGEST_TEXT;
 use nxt_nbc::parse;
+use nxt_nbc_lines::LONGEST_TEXT;
 use std::alloc::Global;
 use std::env;
 use std::process::ExitCode;

@@ -125,7 +125,7 @@ fn name_of(class: Class, word: u16) -> u16
     ensures { (ss : Members) → shape_by ss result ≡ shape_of_sort (sort_of ss class word) }
 {
     match class {
-        Class::Immediate | Class::Clumped | Class::Offset => LEFT_OUT,
+        Class::Immediate | Class::Clump | Class::Offset => LEFT_OUT,
         _ => word,
     }
 }
@@ -142,7 +142,7 @@ fn number_of(class: Class, word: u16) -> u16
     ensures { (ss : Members) → result ≡ word_of (sort_of ss class word) }
 {
     match class {
-        Class::Immediate | Class::Clumped | Class::Offset => word,
+        Class::Immediate | Class::Clump | Class::Offset => word,
         _ => 0,
     }
 }
@@ -163,13 +163,13 @@ fn is_of_class(toc: &Toc, clumps: usize, class: Class, word: u16) -> bool
 {
     let shape = shape_of(toc, class, word);
     match class {
-        Class::Written | Class::Read => is_number(shape),
-        Class::Listed => is_list(shape),
+        Class::NumberOut | Class::NumberIn => is_number(shape),
+        Class::List => is_list(shape),
         Class::Text => is_text(shape),
         Class::Anything => is_value(shape),
-        Class::Mutexed => is_mutex(shape),
+        Class::Mutex => is_mutex(shape),
         Class::Immediate | Class::Offset => true,
-        Class::Clumped => usize::from(word) < clumps,
-        Class::OptionalWritten | Class::OptionalRead => word == LEFT_OUT || is_number(shape),
+        Class::Clump => usize::from(word) < clumps,
+        Class::OptionalOut | Class::OptionalIn => word == LEFT_OUT || is_number(shape),
     }
 }

@@ -4,7 +4,7 @@ use Rattle.std.specs.List.{list_any}
 use Rattle.nxt_types.specs.Arithmetic.{cut}
 use Rattle.nxt_types.specs.Names.{named}
 use Rattle.nxt_types.specs.declared.kind.Kind.TheVariants.{Ubyte}
-use Rattle.nxt_types.specs.declared.opcodes.Class.TheVariants.{OptionalRead}
+use Rattle.nxt_types.specs.declared.opcodes.Class.TheVariants.{OptionalIn}
 use Rattle.nxt_model.specs.Values.{number}
 use Rattle.nxt_model.specs.Variables.{part_of, refers, read}
 use Rattle.nxt_model.specs.Devices.{Devices, Change, each_port, motor_at, with_motor, set_property}
@@ -20,7 +20,7 @@ number_at s w = number (value_of (read s.values (part_of (named s.shapes w))))
 
 -- whether a stop stops, by the word that it has
 abbrev pub halts : Variables → ℕ → Bool
-halts s w = stops_at (read s.values (refers s.shapes OptionalRead w))
+halts s w = stops_at (read s.values (refers s.shapes OptionalIn w))
 
 -- ---- motors
 

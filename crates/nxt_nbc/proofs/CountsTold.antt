@@ -7,9 +7,9 @@ use Rattle.std.proofs.lemmas.List.{length-map}
 use Rattle.nxt_model.specs.Nbc.Forms.{Formed}
 use Rattle.nxt_model.specs.Nbc.Text.{Source, blocks_in, is_main, source_of}
 use Rattle.nxt_model.specs.Nbc.NbcRules.{NoMain, TooMany, tells}
-use Rattle.nxt_forms.specs.Firsts.{Keeps}
-use Rattle.nxt_names.specs.BlocksSeen.{block_seen}
-use Rattle.nxt_names.specs.declared.blocks.Block.{Block as ProgramBlock}
+use Rattle.nxt_nbc_lines.specs.Firsts.{Keeps}
+use Rattle.nxt_nbc_names.specs.BlocksSeen.{block_seen}
+use Rattle.nxt_nbc_names.specs.declared.blocks.Block.{Block as ProgramBlock}
 
 main_seen : (ps : List ProgramBlock) → list_any (λ p. is_main (block_seen p)) ps ≡ list_any is_main (map block_seen ps)
 main_seen [] = refl

@@ -11,7 +11,7 @@ use Rattle.nxt_model.specs.Nbc.Text.{program_of, source_of}
 use Rattle.nxt_model.specs.Nbc.NbcRules.{TextFault, Broken, rank}
 use Rattle.nxt_model.specs.TextProgram.{Text}
 use Rattle.nxt_model.specs.declared.nbc.NbcProgram.{NbcProgram}
-use Rattle.nxt_forms.specs.declared.fault.NbcFault.{NbcFault}
+use Rattle.nxt_nbc_lines.specs.declared.fault.NbcFault.{NbcFault}
 use Rattle.nxt_nbc.specs.Checked.{IsParsed, Spells}
 use Rattle.nxt_nbc.specs.Faults.{IsRefused, fault_seen}
 

@@ -3,7 +3,7 @@ use Rattle.std.proofs.Common.{◌≡◌, ℕ, ◌+◌, ◌-◌, ◌^◌, ◌≤�
 use Rattle.std.specs.Prelude.{if◌then◌else◌, nat_lt}
 use Rattle.std.proofs.Math.Nat.{min-eq_left, min-eq_right}
 use Rattle.std.proofs.lemmas.Bool.{cases_lt, lt-ltb}
-use Rattle.nxt_forms.specs.Firsts.{lesser}
+use Rattle.nxt_nbc_lines.specs.Firsts.{lesser}
 use Rattle.nxt_nbc.specs.Spaces.{again}
 
 -- ---- lines

@@ -5,8 +5,8 @@ use Rattle.std.proofs.lemmas.Bool.{cases_eq, and_from, and_left, and_right, both
 use Rattle.std.proofs.lemmas.List.Folds.{list_any-append}
 use Rattle.std.proofs.lemmas.Slice.Eq.{bytes_eq-Decides}
 use Rattle.nxt_model.specs.Nbc.NbcRules.{Declared, is_repeated}
-use Rattle.nxt_forms.specs.Firsts.{IsLeast, lesser}
-use Rattle.nxt_forms.proofs.Laws.FirstLines.{least_like, least_lesser}
+use Rattle.nxt_nbc_lines.specs.Firsts.{IsLeast, lesser}
+use Rattle.nxt_nbc_lines.proofs.Laws.FirstLines.{least_like, least_lesser}
 use Rattle.nxt_nbc.specs.Spaces.{is_among, least_again, least_in_spaces}
 use Rattle.nxt_nbc.proofs.LesserLines.{line_if, again_is}
 

@@ -4,11 +4,11 @@ use Rattle.std.specs.List.{cons_option}
 use Rattle.std.proofs.lemmas.List.{drop_more, drop_all}
 use Rattle.nxt_model.specs.Nbc.Forms.{Form}
 use Rattle.nxt_model.specs.Nbc.NbcRules.{Declared, shared_name, members_in, member_spaces}
-use Rattle.nxt_forms.specs.Seen.{form_seen, line_form_seen}
-use Rattle.nxt_forms.specs.declared.form.TypeName.{TypeName}
-use Rattle.nxt_forms.specs.declared.form.Form.{Form as ProgramForm}
-use Rattle.nxt_forms.specs.declared.form.Form.TheVariants as forms
-use Rattle.nxt_forms.specs.declared.forms.LineForm.{LineForm}
+use Rattle.nxt_nbc_lines.specs.Seen.{form_seen, line_form_seen}
+use Rattle.nxt_nbc_lines.specs.declared.form.TypeName.{TypeName}
+use Rattle.nxt_nbc_lines.specs.declared.form.Form.{Form as ProgramForm}
+use Rattle.nxt_nbc_lines.specs.declared.form.Form.TheVariants as forms
+use Rattle.nxt_nbc_lines.specs.declared.forms.LineForm.{LineForm}
 
 -- the lines from one on are that line and those behind it
 pub lines_from : (lines : List LineForm) (i : ℕ) (line : LineForm) → i < length lines → line ≡ get_or lines i line

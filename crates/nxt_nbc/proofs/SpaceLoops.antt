@@ -5,7 +5,7 @@ use Rattle.std.specs.List.{list_any, position_or_len}
 use Rattle.std.proofs.lemmas.Bool.{cases_lt, lt-ltb, le-ltb}
 use Rattle.std.proofs.lemmas.List.Sums.{sum_by-cons}
 use Rattle.nxt_model.specs.Nbc.NbcRules.{Declared}
-use Rattle.nxt_forms.specs.Firsts.{lesser}
+use Rattle.nxt_nbc_lines.specs.Firsts.{lesser}
 use Rattle.nxt_nbc.specs.Spaces.{is_among, again, least_again, least_in_spaces}
 use Rattle.nxt_nbc.proofs.LesserLines.{lesser_none, lesser_assoc}
 

@@ -5,7 +5,7 @@ use Rattle.std.proofs.lemmas.List.Sums.{sum_by-append, sum_by-cons}
 use Rattle.nxt_model.specs.Nbc.Forms.{Form, Formed}
 use Rattle.nxt_model.specs.Nbc.Text.{Block, Source, source_of}
 use Rattle.nxt_model.specs.Nbc.NbcRules.{Declared, TwiceNamed, TooMany, shared_name, member_spaces, label_space, spaces, is_taken, tells}
-use Rattle.nxt_forms.specs.Firsts.{IsLeast, lesser}
+use Rattle.nxt_nbc_lines.specs.Firsts.{IsLeast, lesser}
 use Rattle.nxt_nbc.specs.Spaces.{least_again, least_in_spaces}
 use Rattle.nxt_nbc.proofs.LesserLines.{lesser_assoc, many_held}
 use Rattle.nxt_nbc.proofs.NamesAgain.{least_spaces}

@@ -9,14 +9,14 @@ use Rattle.nxt_types.specs.declared.opcodes.Class.{Class}
 use Rattle.nxt_model.specs.Nbc.Forms.{Form, Formed, Term}
 use Rattle.nxt_model.specs.Nbc.Text.{LabelAt, Source, labels_from, source_of}
 use Rattle.nxt_model.specs.Nbc.NbcRules.{UnknownName, tells, uses_unknown, uses_unknown_type}
-use Rattle.nxt_forms.specs.Firsts.{Ascends, IsLeast, first_in_blocks, first_line, lesser}
-use Rattle.nxt_forms.specs.Seen.{term_seen, terms_seen}
-use Rattle.nxt_forms.specs.Whole.{AreWhole, BlocksAreWhole}
-use Rattle.nxt_forms.specs.declared.terms.Term.{Term as ProgramTerm}
-use Rattle.nxt_forms.proofs.Laws.Classes.{any_classed, none_classed}
-use Rattle.nxt_forms.proofs.Laws.FirstRules.{least_unknown}
-use Rattle.nxt_names.specs.BlocksSeen.{block_seen}
-use Rattle.nxt_names.specs.declared.blocks.Block.{Block as ProgramBlock}
+use Rattle.nxt_nbc_lines.specs.Firsts.{Ascends, IsLeast, first_in_blocks, first_line, lesser}
+use Rattle.nxt_nbc_lines.specs.Seen.{term_seen, terms_seen}
+use Rattle.nxt_nbc_lines.specs.Whole.{AreWhole, BlocksAreWhole}
+use Rattle.nxt_nbc_lines.specs.declared.terms.Term.{Term as ProgramTerm}
+use Rattle.nxt_nbc_lines.proofs.Laws.Classes.{any_classed, none_classed}
+use Rattle.nxt_nbc_lines.proofs.Laws.FirstRules.{least_unknown}
+use Rattle.nxt_nbc_names.specs.BlocksSeen.{block_seen}
+use Rattle.nxt_nbc_names.specs.declared.blocks.Block.{Block as ProgramBlock}
 use Rattle.nxt_nbc.proofs.LesserLines.{lesser_assoc}
 
 -- ---- operands

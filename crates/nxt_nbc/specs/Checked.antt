@@ -7,8 +7,8 @@ use Rattle.nxt_model.specs.Nbc.NbcRules.{Broken}
 use Rattle.nxt_model.specs.Nbc.Text.{program_of, source_of}
 use Rattle.nxt_model.specs.TextProgram.{Text, text_of}
 use Rattle.nxt_model.specs.declared.nbc.NbcProgram.{NbcProgram}
-use Rattle.nxt_forms.specs.Firsts.{HasForms}
-use Rattle.nxt_forms.specs.declared.fault.NbcFault.{NbcFault}
+use Rattle.nxt_nbc_lines.specs.Firsts.{HasForms}
+use Rattle.nxt_nbc_lines.specs.declared.fault.NbcFault.{NbcFault}
 use Rattle.nxt_nbc.specs.Faults.{IsRefused}
 
 -- a text that has these forms is refused by this fault

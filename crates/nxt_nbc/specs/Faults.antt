@@ -3,8 +3,8 @@ use Rattle.std.specs.Prelude.{ℕ, List, Option, Some, None, IfSome}
 use Rattle.nxt_types.specs.Refusals.{IsRefusal}
 use Rattle.nxt_model.specs.Nbc.NbcRules.{TextFault, Broken, rank}
 use Rattle.nxt_model.specs.Nbc.NbcRules as rules
-use Rattle.nxt_forms.specs.declared.fault.NbcFault.{NbcFault}
-use Rattle.nxt_forms.specs.declared.fault.NbcFault.TheVariants.{Lex, Syntax, UnknownName, TwiceNamed, Kind, Range, NoMain, TooMany, NoMemory}
+use Rattle.nxt_nbc_lines.specs.declared.fault.NbcFault.{NbcFault}
+use Rattle.nxt_nbc_lines.specs.declared.fault.NbcFault.TheVariants.{Lex, Syntax, UnknownName, TwiceNamed, Kind, Range, NoMain, TooMany, NoMemory}
 
 -- want of memory is no fault of the text
 abbrev pub fault_seen : NbcFault → Option TextFault

@@ -2,7 +2,7 @@
 use Rattle.std.specs.Prelude.{ℕ, Bool, ◌||◌, if◌then◌else◌, List, [], ◌∷◌, ◌++◌, bytes_eq, Option, Some, None}
 use Rattle.std.specs.List.{list_any}
 use Rattle.nxt_model.specs.Nbc.NbcRules.{Declared}
-use Rattle.nxt_forms.specs.Firsts.{lesser}
+use Rattle.nxt_nbc_lines.specs.Firsts.{lesser}
 
 -- whether a name stands among names
 abbrev pub is_among : List (List ℕ) → List ℕ → Bool

@@ -1,7 +1,7 @@
 // The lesser of two lines.
 
 ghost use Rattle.std.specs.Prelude.{◌≡◌};
-ghost use Rattle.nxt_forms.specs.Firsts.{lesser as lesser_of};
+ghost use Rattle.nxt_nbc_lines.specs.Firsts.{lesser as lesser_of};
 
 /// The lesser of two lines, where there are any.
 pub fn lesser(a: Option<u32>, b: Option<u32>) -> Option<u32>

@@ -4,19 +4,19 @@ ghost use Rattle.std.specs.Prelude.{◌≡◌, nat_lt, IfErr, IfOk, OnOk};
 ghost use Rattle.std.specs.List.{list_any};
 ghost use Rattle.nxt_model.specs.Nbc.Text.{is_main, source_of};
 ghost use Rattle.nxt_model.specs.Nbc.NbcRules.{TooMany, tells};
-ghost use Rattle.nxt_forms.specs.Firsts.{Keeps};
-ghost use Rattle.nxt_forms.specs.Seen.{formed_seen};
-ghost use Rattle.nxt_forms.specs.Whole.{AreLines};
-ghost use Rattle.nxt_names.specs.BlocksSeen.{block_seen};
-ghost use Rattle.nxt_names.specs.SourceSeen.{source_seen};
+ghost use Rattle.nxt_nbc_lines.specs.Firsts.{Keeps};
+ghost use Rattle.nxt_nbc_lines.specs.Seen.{formed_seen};
+ghost use Rattle.nxt_nbc_lines.specs.Whole.{AreLines};
+ghost use Rattle.nxt_nbc_names.specs.BlocksSeen.{block_seen};
+ghost use Rattle.nxt_nbc_names.specs.SourceSeen.{source_seen};
 ghost use Rattle.nxt_nbc.specs.Checked.{Refuses};
 
 use crate::spaces::declarations_of;
 use crate::syntax::bad_line;
 use crate::unknown::unknown_line;
-use nxt_forms::{Formed, NbcFault};
-use nxt_kinds::{Kinship, range_line, wrong_kind};
-use nxt_names::{Block, Source};
+use nxt_nbc_kinds::{Kinship, range_line, wrong_kind};
+use nxt_nbc_lines::{Formed, NbcFault};
+use nxt_nbc_names::{Block, Source};
 use std::alloc::Global;
 
 /// The most threads and subroutines of a text.

@@ -3,16 +3,16 @@
 ghost use Rattle.std.specs.Prelude.{◌≡◌, ℕ, ◌+◌, [], ◌∷◌, ◌++◌, ◌||◌, Option, None, filter_map, length, map, nat_lt, option_map, sum_by, IfOk, OnOk};
 ghost use Rattle.nxt_model.specs.Nbc.Text.{source_of};
 ghost use Rattle.nxt_model.specs.Nbc.NbcRules.{TooMany, TwiceNamed, is_taken, label_space, member_spaces, members_in, shared_name, tells};
-ghost use Rattle.nxt_forms.specs.Firsts.{IsLeast, lesser as lesser_of};
-ghost use Rattle.nxt_forms.specs.Seen.{form_seen, formed_seen, line_form_seen};
-ghost use Rattle.nxt_names.specs.BlocksSeen.{block_seen};
-ghost use Rattle.nxt_names.specs.SourceSeen.{source_seen};
+ghost use Rattle.nxt_nbc_lines.specs.Firsts.{IsLeast, lesser as lesser_of};
+ghost use Rattle.nxt_nbc_lines.specs.Seen.{form_seen, formed_seen, line_form_seen};
+ghost use Rattle.nxt_nbc_names.specs.BlocksSeen.{block_seen};
+ghost use Rattle.nxt_nbc_names.specs.SourceSeen.{source_seen};
 ghost use Rattle.nxt_nbc.specs.Spaces.{again, is_among, least_again, least_in_spaces};
 ghost use Rattle.nxt_nbc.specs.SpacesSeen.{Tells};
 
 use crate::lines::lesser;
-use nxt_forms::{Form, Formed, LineForm};
-use nxt_names::{Block, Labels, NameTable, Source, is_header_name};
+use nxt_nbc_lines::{Form, Formed, LineForm};
+use nxt_nbc_names::{Block, Labels, NameTable, Source, is_header_name};
 use nxt_types::NoMemory;
 use std::alloc::Global;
 

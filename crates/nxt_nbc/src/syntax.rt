@@ -5,16 +5,16 @@ ghost use Rattle.nxt_model.specs.Nbc.Forms.{is_byte_name};
 ghost use Rattle.nxt_model.specs.Nbc.Text.{source_of};
 ghost use Rattle.nxt_model.specs.Nbc.Types.{is_type, shape_of, types_at};
 ghost use Rattle.nxt_model.specs.Nbc.NbcRules.{Syntax, is_too_large, tells};
-ghost use Rattle.nxt_forms.specs.Firsts.{IsLeast, first_line};
-ghost use Rattle.nxt_forms.specs.Seen.{form_seen, formed_seen, line_form_seen, type_seen};
-ghost use Rattle.nxt_forms.specs.Whole.{AreLines};
-ghost use Rattle.nxt_names.specs.SourceSeen.{source_seen};
-ghost use Rattle.nxt_names.specs.Structs.{structs_in};
+ghost use Rattle.nxt_nbc_lines.specs.Firsts.{IsLeast, first_line};
+ghost use Rattle.nxt_nbc_lines.specs.Seen.{form_seen, formed_seen, line_form_seen, type_seen};
+ghost use Rattle.nxt_nbc_lines.specs.Whole.{AreLines};
+ghost use Rattle.nxt_nbc_names.specs.SourceSeen.{source_seen};
+ghost use Rattle.nxt_nbc_names.specs.Structs.{structs_in};
 ghost use Rattle.nxt_nbc.specs.Syntax.{is_bad_form};
 
 use crate::lines::lesser;
-use nxt_forms::{Form, Formed, Given, LineForm, TypeName};
-use nxt_names::{Source, StructTable};
+use nxt_nbc_lines::{Form, Formed, Given, LineForm, TypeName};
+use nxt_nbc_names::{Source, StructTable};
 
 /// The first line that has none of the forms of its place, that opens what isn't closed, that ends a struct without
 /// members, that declares too large a type, or that gives a text to a list of numbers that aren't bytes.

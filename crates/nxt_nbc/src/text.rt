@@ -5,10 +5,10 @@ ghost use Rattle.nxt_nbc.specs.Checked.{IsParsed};
 ghost use Rattle.nxt_nbc.specs.Faults.{IsRefused};
 
 use crate::rules::check_rules;
-use nxt_forms::{NbcFault, forms_of, lex};
 use nxt_model::nbc::NbcProgram;
-use nxt_names::Source;
-use nxt_program::program_of;
+use nxt_nbc_lines::{NbcFault, forms_of, lex};
+use nxt_nbc_names::Source;
+use nxt_nbc_program::program_of;
 use std::alloc::Global;
 
 /// The program that a text spells (NBC Programmer's Guide). A refusal is the first broken rule at its least place.

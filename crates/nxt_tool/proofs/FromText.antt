@@ -13,12 +13,12 @@ use Rattle.nxt_rxe.specs.Files.{Fits}
 use Rattle.nxt_layout.specs.Start.{image_of}
 use Rattle.nxt_layout.proofs.Laws.OneStart.{one_shapes, one_start}
 use Rattle.nxt_nbc.specs.Checked.{IsParsed}
-use Rattle.nxt_parts.specs.AssembledParts.{parts_of}
-use Rattle.nxt_limits.specs.AsmRules.{Broken}
-use Rattle.nxt_limits.proofs.Laws.Files.{file_is}
-use Rattle.nxt_sound_code.proofs.Laws.Accepted.{code_accepted}
-use Rattle.nxt_sound_layout.proofs.Laws.Accepted.{layout_accepted, rows_are, starts_as}
-use Rattle.nxt_sound_runs.proofs.Laws.{faithful}
+use Rattle.nxt_asm_parts.specs.AssembledParts.{parts_of}
+use Rattle.nxt_asm_rules.specs.AsmRules.{Broken}
+use Rattle.nxt_asm_rules.proofs.Laws.Files.{file_is}
+use Rattle.nxt_asm_laws_code.proofs.Laws.Accepted.{code_accepted}
+use Rattle.nxt_asm_laws_layout.proofs.Laws.Accepted.{layout_accepted, rows_are, starts_as}
+use Rattle.nxt_asm_laws_runs.proofs.Laws.{faithful}
 use Rattle.nxt_tool.specs.Accepted.{IsRun, PartsCause, RefusesParts, code_in}
 use Rattle.nxt_tool.specs.Assembling.{HasTextCause, IsTextImage}
 use Rattle.nxt_tool.specs.declared.fault.AcceptFault.{AcceptFault}

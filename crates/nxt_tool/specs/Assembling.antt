@@ -15,9 +15,9 @@ use Rattle.nxt_model.specs.TextProgram.{program_of}
 use Rattle.nxt_rxe.specs.Files.{file_of}
 use Rattle.nxt_nbc.specs.Checked.{Spells}
 use Rattle.nxt_nbc.specs.Faults.{fault_seen}
-use Rattle.nxt_parts.specs.AssembledParts.{parts_of}
-use Rattle.nxt_limits.specs.AsmRules as assembler_rules
-use Rattle.nxt_limits.specs.AsmRules.{start_footprint}
+use Rattle.nxt_asm_parts.specs.AssembledParts.{parts_of}
+use Rattle.nxt_asm_rules.specs.AsmRules as assembler_rules
+use Rattle.nxt_asm_rules.specs.AsmRules.{start_footprint}
 use Rattle.nxt_tool.specs.declared.fault.AcceptFault.{AcceptFault}
 use Rattle.nxt_tool.specs.declared.fault.AcceptFault.TheVariants.{Refused, NoMemory}
 use Rattle.nxt_tool.specs.declared.fault.Refusal.{Refusal}

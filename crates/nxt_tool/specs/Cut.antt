@@ -6,7 +6,7 @@ use Rattle.nxt_model.specs.Report.{Setting, IsReport, TooLarge, setting, text_se
 use Rattle.nxt_model.specs.TextProgram.{Text}
 use Rattle.nxt_types.specs.Refusals.{IsAccepted}
 use Rattle.nxt_nbc.specs.Checked.{Spells}
-use Rattle.nxt_limits.specs.AsmRules as assembler_rules
+use Rattle.nxt_asm_rules.specs.AsmRules as assembler_rules
 use Rattle.nxt_script.specs.Rows.{rows}
 use Rattle.nxt_report.specs.Cut.{RanRows}
 use Rattle.nxt_tool.specs.Accepted.{IsAcceptedAs}

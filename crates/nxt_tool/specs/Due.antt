@@ -7,7 +7,7 @@ use Rattle.nxt_model.specs.Report.{IsReport, setting, text_setting}
 use Rattle.nxt_model.specs.TextProgram.{Text}
 use Rattle.nxt_types.specs.Refusals.{IsAccepted}
 use Rattle.nxt_nbc.specs.Checked.{Spells}
-use Rattle.nxt_limits.specs.AsmRules as assembler_rules
+use Rattle.nxt_asm_rules.specs.AsmRules as assembler_rules
 use Rattle.nxt_tool.specs.declared.words.Command.{Command}
 use Rattle.nxt_tool.specs.declared.words.Command.TheVariants.{RunRxe, RunNbc, Assemble, Describe, Generate}
 use Rattle.nxt_tool.specs.declared.words.Description.{Description}

@@ -10,12 +10,12 @@ use Rattle.nxt_code.specs.declared.fault.CodeFault.{CodeFault}
 use Rattle.nxt_code.specs.declared.fault.CodeFault.TheVariants as code
 use Rattle.nxt_code.specs.CodeRules as code_rules
 use Rattle.nxt_model.specs.Nbc.NbcRules as text_rules
-use Rattle.nxt_forms.specs.declared.fault.NbcFault.{NbcFault}
-use Rattle.nxt_forms.specs.declared.fault.NbcFault.TheVariants as text
+use Rattle.nxt_nbc_lines.specs.declared.fault.NbcFault.{NbcFault}
+use Rattle.nxt_nbc_lines.specs.declared.fault.NbcFault.TheVariants as text
 use Rattle.nxt_nbc.specs.Faults.{fault_seen}
-use Rattle.nxt_limits.specs.declared.fault.AsmFault.{AsmFault}
-use Rattle.nxt_limits.specs.declared.fault.AsmFault.TheVariants as assembler
-use Rattle.nxt_limits.specs.AsmRules as assembler_rules
+use Rattle.nxt_asm_rules.specs.declared.fault.AsmFault.{AsmFault}
+use Rattle.nxt_asm_rules.specs.declared.fault.AsmFault.TheVariants as assembler
+use Rattle.nxt_asm_rules.specs.AsmRules as assembler_rules
 use Rattle.nxt_tool.specs.declared.fault.Refusal.{Refusal}
 use Rattle.nxt_tool.specs.declared.fault.Refusal.TheVariants.{Sections, Layout, Code, Text, Assembler}
 use Rattle.nxt_tool.specs.declared.fault.AcceptFault.{AcceptFault}

@@ -6,10 +6,10 @@ ghost use Rattle.nxt_nbc.specs.Faults.{fault_seen};
 ghost use Rattle.nxt_tool.specs.Refused.{told, text_told, of_sections, of_layout, of_code, of_text, of_assembler};
 ghost use Rattle.nxt_tool.specs.declared.fault.AcceptFault.TheVariants.{NoMemory as no_memory};
 
+use nxt_asm_rules::AsmFault;
 use nxt_code::CodeFault;
-use nxt_forms::NbcFault;
 use nxt_layout::LayoutFault;
-use nxt_limits::AsmFault;
+use nxt_nbc_lines::NbcFault;
 use nxt_rxe::RxeFault;
 use nxt_types::memory;
 use nxt_types::refusal::BrokenRule;

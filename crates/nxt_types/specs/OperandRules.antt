@@ -4,7 +4,7 @@ use Rattle.nxt_types.specs.Shapes.{Shape, Void, Number, Array, Cluster, Mutex, M
 use Rattle.nxt_types.specs.Names.{Name, named}
 use Rattle.nxt_types.specs.Opcodes.{classes}
 use Rattle.nxt_types.specs.declared.opcodes.Class.{Class}
-use Rattle.nxt_types.specs.declared.opcodes.Class.TheVariants.{Written, Read, Listed, Text, Anything, Mutexed, Immediate, Clumped, Offset, OptionalWritten, OptionalRead}
+use Rattle.nxt_types.specs.declared.opcodes.Class.TheVariants.{NumberOut, NumberIn, List as AList, Text, Anything, Mutex as AMutex, Immediate, Clump, Offset, OptionalOut, OptionalIn}
 use Rattle.nxt_types.specs.Statements.{Statement}
 use Rattle.nxt_types.specs.Calls.{call_of, is_cluster_of, is_text}
 use Rattle.nxt_types.specs.declared.calls.Call.{Call}
@@ -28,10 +28,10 @@ sort_of_name (Some n) = Part n.shape
 -- what an operand of a class is, by its word
 abbrev pub sort_of : Members → Class → ℕ → Sort
 sort_of ss Immediate w = Word w
-sort_of ss Clumped w = Word w
+sort_of ss Clump w = Word w
 sort_of ss Offset w = Word w
-sort_of ss OptionalWritten w = if w == left_out then Absent else sort_of_name (named ss w)
-sort_of ss OptionalRead w = if w == left_out then Absent else sort_of_name (named ss w)
+sort_of ss OptionalOut w = if w == left_out then Absent else sort_of_name (named ss w)
+sort_of ss OptionalIn w = if w == left_out then Absent else sort_of_name (named ss w)
 sort_of ss _ w = sort_of_name (named ss w)
 
 abbrev pub sorts_of : Members → Statement → List Sort
@@ -68,17 +68,17 @@ is_absent _ = false
 
 -- the operand is of the class, in a program of so many clumps
 abbrev pub is_of_class : ℕ → Class → Sort → Bool
-is_of_class clumps Written o = is_number (shape_of o)
-is_of_class clumps Read o = is_number (shape_of o)
-is_of_class clumps Listed o = is_list (shape_of o)
+is_of_class clumps NumberOut o = is_number (shape_of o)
+is_of_class clumps NumberIn o = is_number (shape_of o)
+is_of_class clumps AList o = is_list (shape_of o)
 is_of_class clumps Text o = is_text (shape_of o)
 is_of_class clumps Anything o = is_value (shape_of o)
-is_of_class clumps Mutexed o = is_mutex (shape_of o)
+is_of_class clumps AMutex o = is_mutex (shape_of o)
 is_of_class clumps Immediate o = true
-is_of_class clumps Clumped o = nat_lt (word_of o) clumps
+is_of_class clumps Clump o = nat_lt (word_of o) clumps
 is_of_class clumps Offset o = true
-is_of_class clumps OptionalWritten o = is_absent o || is_number (shape_of o)
-is_of_class clumps OptionalRead o = is_absent o || is_number (shape_of o)
+is_of_class clumps OptionalOut o = is_absent o || is_number (shape_of o)
+is_of_class clumps OptionalIn o = is_absent o || is_number (shape_of o)
 
 -- ---- beside the others
 

@@ -12,27 +12,27 @@ use crate::kind::Cmp;
 #[derive(Clone, Copy, PartialEq, Eq, Debug)]
 pub enum Class {
     /// A number that is written.
-    Written,
+    NumberOut,
     /// A number that is read.
-    Read,
+    NumberIn,
     /// A list.
-    Listed,
+    List,
     /// A list of ubyte.
     Text,
     /// A number, a list or a group.
     Anything,
     /// A mutex.
-    Mutexed,
+    Mutex,
     /// A plain number: no index of an entry.
     Immediate,
     /// The number of a clump.
-    Clumped,
+    Clump,
     /// A jump's offset.
     Offset,
     /// A number that is written, or left out.
-    OptionalWritten,
+    OptionalOut,
     /// A number that is read, or left out.
-    OptionalRead,
+    OptionalIn,
 }
 
 /// The classes of the operands that an operation takes.
@@ -186,8 +186,8 @@ impl Op {
         ensures { row_seen result ≡ row_of self }
     {
         use Class::{
-            Anything, Clumped, Immediate, Listed, Mutexed, Offset, OptionalRead, OptionalWritten,
-            Read, Text, Written,
+            Anything, Clump, Immediate, List, Mutex, Offset, OptionalIn, OptionalOut, NumberIn,
+            Text, NumberOut,
         };
         match self {
             Op::Add => plain(0x00, "add", fixed(&[Anything, Anything, Anything])),
@@ -202,63 +202,59 @@ impl Op {
             Op::Not => plain(0x09, "not", fixed(&[Anything, Anything])),
             Op::Cmp => comparing(0x11, "cmp", fixed(&[Anything, Anything, Anything])),
             Op::Tst => comparing(0x12, "tst", fixed(&[Anything, Anything])),
-            Op::Index => plain(0x15, "index", fixed(&[Anything, Listed, OptionalRead])),
-            Op::Replace => plain(
-                0x16,
-                "replace",
-                fixed(&[Listed, Listed, OptionalRead, Anything]),
-            ),
-            Op::Arrsize => plain(0x17, "arrsize", fixed(&[Written, Listed])),
-            Op::Arrbuild => plain(0x18, "arrbuild", Operands::FirstAndMore(Listed, Anything)),
+            Op::Index => plain(0x15, "index", fixed(&[Anything, List, OptionalIn])),
+            Op::Replace => plain(0x16, "replace", fixed(&[List, List, OptionalIn, Anything])),
+            Op::Arrsize => plain(0x17, "arrsize", fixed(&[NumberOut, List])),
+            Op::Arrbuild => plain(0x18, "arrbuild", Operands::FirstAndMore(List, Anything)),
             Op::Arrsubset => plain(
                 0x19,
                 "arrsubset",
-                fixed(&[Listed, Listed, OptionalRead, OptionalRead]),
+                fixed(&[List, List, OptionalIn, OptionalIn]),
             ),
-            Op::Arrinit => plain(0x1A, "arrinit", fixed(&[Listed, Anything, Read])),
+            Op::Arrinit => plain(0x1A, "arrinit", fixed(&[List, Anything, NumberIn])),
             Op::Mov => plain(0x1B, "mov", fixed(&[Anything, Anything])),
-            Op::Set => plain(0x1C, "set", fixed(&[Written, Immediate])),
+            Op::Set => plain(0x1C, "set", fixed(&[NumberOut, Immediate])),
             Op::Flatten => plain(0x1D, "flatten", fixed(&[Text, Anything])),
             Op::Unflatten => plain(
                 0x1E,
                 "unflatten",
-                fixed(&[Anything, OptionalWritten, Text, Anything]),
+                fixed(&[Anything, OptionalOut, Text, Anything]),
             ),
-            Op::Numtostr => plain(0x1F, "numtostr", fixed(&[Text, Read])),
+            Op::Numtostr => plain(0x1F, "numtostr", fixed(&[Text, NumberIn])),
             Op::Strtonum => plain(
                 0x20,
                 "strtonum",
-                fixed(&[Written, OptionalWritten, Text, OptionalRead, OptionalRead]),
+                fixed(&[NumberOut, OptionalOut, Text, OptionalIn, OptionalIn]),
             ),
             Op::Strcat => plain(0x21, "strcat", Operands::FirstAndMore(Text, Text)),
             Op::Strsubset => plain(
                 0x22,
                 "strsubset",
-                fixed(&[Text, Text, OptionalRead, OptionalRead]),
+                fixed(&[Text, Text, OptionalIn, OptionalIn]),
             ),
             Op::Strtoarr => plain(0x23, "strtoarr", fixed(&[Text, Text])),
             Op::Arrtostr => plain(0x24, "arrtostr", fixed(&[Text, Text])),
             Op::Jmp => plain(0x25, "jmp", fixed(&[Offset])),
             Op::Brcmp => comparing(0x26, "brcmp", fixed(&[Offset, Anything, Anything])),
-            Op::Brtst => comparing(0x27, "brtst", fixed(&[Offset, Read])),
+            Op::Brtst => comparing(0x27, "brtst", fixed(&[Offset, NumberIn])),
             Op::Syscall => plain(0x28, "syscall", fixed(&[Immediate, Anything])),
-            Op::Stop => plain(0x29, "stop", fixed(&[OptionalRead])),
+            Op::Stop => plain(0x29, "stop", fixed(&[OptionalIn])),
             Op::Finclump => plain(0x2A, "finclump", fixed(&[Immediate, Immediate])),
-            Op::Finclumpimmed => plain(0x2B, "finclumpimmed", fixed(&[Clumped])),
-            Op::Acquire => plain(0x2C, "acquire", fixed(&[Mutexed])),
-            Op::Release => plain(0x2D, "release", fixed(&[Mutexed])),
-            Op::Subcall => plain(0x2E, "subcall", fixed(&[Clumped, Written])),
-            Op::Subret => plain(0x2F, "subret", fixed(&[Read])),
-            Op::Setin => plain(0x30, "setin", fixed(&[Read, Read, Immediate])),
+            Op::Finclumpimmed => plain(0x2B, "finclumpimmed", fixed(&[Clump])),
+            Op::Acquire => plain(0x2C, "acquire", fixed(&[Mutex])),
+            Op::Release => plain(0x2D, "release", fixed(&[Mutex])),
+            Op::Subcall => plain(0x2E, "subcall", fixed(&[Clump, NumberOut])),
+            Op::Subret => plain(0x2F, "subret", fixed(&[NumberIn])),
+            Op::Setin => plain(0x30, "setin", fixed(&[NumberIn, NumberIn, Immediate])),
             Op::Setout => plain(
                 0x31,
                 "setout",
-                Operands::FirstAndPairs(Anything, Immediate, Read),
+                Operands::FirstAndPairs(Anything, Immediate, NumberIn),
             ),
-            Op::Getin => plain(0x32, "getin", fixed(&[Written, Read, Immediate])),
-            Op::Getout => plain(0x33, "getout", fixed(&[Written, Read, Immediate])),
-            Op::Wait => plain(0x34, "wait", fixed(&[OptionalRead])),
-            Op::Gettick => plain(0x35, "gettick", fixed(&[Written])),
+            Op::Getin => plain(0x32, "getin", fixed(&[NumberOut, NumberIn, Immediate])),
+            Op::Getout => plain(0x33, "getout", fixed(&[NumberOut, NumberIn, Immediate])),
+            Op::Wait => plain(0x34, "wait", fixed(&[OptionalIn])),
+            Op::Gettick => plain(0x35, "gettick", fixed(&[NumberOut])),
         }
     }
 

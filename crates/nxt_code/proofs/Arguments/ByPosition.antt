@@ -114,18 +114,18 @@ no_word_left_out : (b : Bool) (o : Option Name) → 0 ≡ word_of (if b then Abs
 no_word_left_out true o = refl
 no_word_left_out false o = no_word o
 
-pub no_number : (ss : Members) (c : Class) (w : ℕ) → c ≢ classes.Immediate → c ≢ classes.Clumped → c ≢ classes.Offset → 0 ≡ word_of (sort_of ss c w)
+pub no_number : (ss : Members) (c : Class) (w : ℕ) → c ≢ classes.Immediate → c ≢ classes.Clump → c ≢ classes.Offset → 0 ≡ word_of (sort_of ss c w)
 no_number ss classes.Immediate w a b d = absurd (a refl)
-no_number ss classes.Clumped w a b d = absurd (b refl)
+no_number ss classes.Clump w a b d = absurd (b refl)
 no_number ss classes.Offset w a b d = absurd (d refl)
-no_number ss classes.OptionalWritten w a b d = no_word_left_out (w == 0xFFFF) (named ss w)
-no_number ss classes.OptionalRead w a b d = no_word_left_out (w == 0xFFFF) (named ss w)
-no_number ss classes.Written w a b d = no_word (named ss w)
-no_number ss classes.Read w a b d = no_word (named ss w)
-no_number ss classes.Listed w a b d = no_word (named ss w)
+no_number ss classes.OptionalOut w a b d = no_word_left_out (w == 0xFFFF) (named ss w)
+no_number ss classes.OptionalIn w a b d = no_word_left_out (w == 0xFFFF) (named ss w)
+no_number ss classes.NumberOut w a b d = no_word (named ss w)
+no_number ss classes.NumberIn w a b d = no_word (named ss w)
+no_number ss classes.List w a b d = no_word (named ss w)
 no_number ss classes.Text w a b d = no_word (named ss w)
 no_number ss classes.Anything w a b d = no_word (named ss w)
-no_number ss classes.Mutexed w a b d = no_word (named ss w)
+no_number ss classes.Mutex w a b d = no_word (named ss w)
 
 -- ---- properties
 

@@ -12,7 +12,7 @@ use Rattle.nxt_types.specs.Words.{left_out, nameless}
 use Rattle.nxt_types.specs.declared.instr.Op.{Op}
 use Rattle.nxt_types.specs.declared.instr.Op.TheVariants as ops
 use Rattle.nxt_types.specs.declared.opcodes.Class.{Class}
-use Rattle.nxt_types.specs.declared.opcodes.Class.TheVariants.{Written, Read, Listed, Text, Anything, Mutexed, Immediate, Clumped, Offset, OptionalWritten, OptionalRead}
+use Rattle.nxt_types.specs.declared.opcodes.Class.TheVariants.{NumberOut, NumberIn, List as AList, Text, Anything, Mutex as AMutex, Immediate, Clump, Offset, OptionalOut, OptionalIn}
 use Rattle.nxt_types.specs.Shapes.{Shape, Void, Number, Array, Cluster, Mutex, Members, no_members, member, shapes_of, has_list, is_number, SpellsAll}
 use Rattle.nxt_types.specs.Statements.{Statement}
 use Rattle.nxt_model.specs.Dump.{shape_under}
@@ -83,17 +83,17 @@ optional_named ss w false = word_named ss w
 
 -- an operand's word names a part in no list, by whatever class it is read
 refers_named : (ss : Members) (c : Class) (w : ℕ) → IsNamed ss (refers ss c w)
-refers_named ss Written w = word_named ss w
-refers_named ss Read w = word_named ss w
-refers_named ss Listed w = word_named ss w
+refers_named ss NumberOut w = word_named ss w
+refers_named ss NumberIn w = word_named ss w
+refers_named ss AList w = word_named ss w
 refers_named ss Text w = word_named ss w
 refers_named ss Anything w = word_named ss w
-refers_named ss Mutexed w = word_named ss w
+refers_named ss AMutex w = word_named ss w
 refers_named ss Immediate w = tt
-refers_named ss Clumped w = tt
+refers_named ss Clump w = tt
 refers_named ss Offset w = tt
-refers_named ss OptionalWritten w = optional_named ss w (w == left_out)
-refers_named ss OptionalRead w = optional_named ss w (w == left_out)
+refers_named ss OptionalOut w = optional_named ss w (w == left_out)
+refers_named ss OptionalIn w = optional_named ss w (w == left_out)
 
 all_named : (ss : Members) (ps : List (Class × ℕ)) → Each (IsNamed ss) (map (λ p. refers ss p.0 p.1) ps)
 all_named ss [] = tt

@@ -11,7 +11,7 @@ use Rattle.nxt_types.specs.declared.instr.Instr.{Instr}
 use Rattle.nxt_types.specs.declared.instr.Op.{Op}
 use Rattle.nxt_types.specs.declared.instr.Op.TheVariants as ops
 use Rattle.nxt_types.specs.declared.kind.Cmp.{Cmp}
-use Rattle.nxt_types.specs.declared.opcodes.Class.TheVariants.{OptionalRead}
+use Rattle.nxt_types.specs.declared.opcodes.Class.TheVariants.{OptionalIn}
 use Rattle.nxt_model.specs.Devices.{Devices}
 use Rattle.nxt_model.specs.Means.{means}
 use Rattle.nxt_model.specs.Means.Effects.{Operand, nothing, word_or, value_of}
@@ -83,7 +83,7 @@ optional_by : (ss : Members) (w : ℕ) (b : Bool) → (w == 65535) ≡ b → (if
 optional_by ss w true e = ap (λ n. part_of (named ss n)) (sym (eqb-true w 65535 e))
 optional_by ss w false e = refl
 
-pub optional_same : (ss : Members) (w : ℕ) → refers ss OptionalRead w ≡ part_of (named ss w)
+pub optional_same : (ss : Members) (w : ℕ) → refers ss OptionalIn w ≡ part_of (named ss w)
 optional_same ss w = optional_by ss w (w == 65535) refl
 
 -- ---- what they name

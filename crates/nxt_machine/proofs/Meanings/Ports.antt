@@ -12,7 +12,7 @@ use Rattle.nxt_types.specs.Arithmetic.{word, cut}
 use Rattle.nxt_types.specs.Names.{named}
 use Rattle.nxt_types.specs.Shapes.{Shape, is_number}
 use Rattle.nxt_types.specs.Opcodes.{pairs_of}
-use Rattle.nxt_types.specs.declared.opcodes.Class.TheVariants.{Immediate as immediate, Read}
+use Rattle.nxt_types.specs.declared.opcodes.Class.TheVariants.{Immediate as immediate, NumberIn}
 use Rattle.nxt_types.specs.Statements.{statement}
 use Rattle.nxt_model.specs.Devices.{Devices, Change, changed, each_port, and_then, motor_at, with_motor, set_property, property, set_in, get_in, get_out, sensor_writable, motor_writable, with_property, as_property, sensor_kinds, motor_kinds, update_flags, updated, motor_line}
 use Rattle.nxt_model.specs.Means.Effects.{Operand, Given, device_change}
@@ -30,7 +30,7 @@ use Rattle.nxt_machine.specs.Numbers.{number_at, with_pairs, flags_set, ports_at
 module _ (s : Variables) where
   -- the operands that n pairs of words give
   abbrev pub pair_operands : ℕ → List ℕ → List Operand
-  pair_operands n ps = map (read s.values) (map (λ p. refers s.shapes p.0 p.1) (zip (pairs_of immediate Read n) ps))
+  pair_operands n ps = map (read s.values) (map (λ p. refers s.shapes p.0 p.1) (zip (pairs_of immediate NumberIn n) ps))
 
   pub pairs_set : (n : ℕ) (ps : List ℕ) (m : List ℤ) → n ≡ length ps / 2 → set_pairs (pair_operands n ps) m ≡ with_pairs s ps m
   pairs_set zero [] m e = refl

@@ -7,7 +7,7 @@ use Rattle.nxt_types.specs.Shapes.{Shape, Number, Array, Mutex}
 use Rattle.nxt_types.specs.Names.{size}
 use Rattle.nxt_types.specs.Opcodes.{classes}
 use Rattle.nxt_types.specs.declared.opcodes.Class.{Class}
-use Rattle.nxt_types.specs.declared.opcodes.Class.TheVariants.{Immediate, Clumped, Offset, OptionalWritten, OptionalRead}
+use Rattle.nxt_types.specs.declared.opcodes.Class.TheVariants.{Immediate, Clump, Offset, OptionalOut, OptionalIn}
 use Rattle.nxt_types.specs.OperandRules.{Sort, Part, Word, Absent, Unknown, has_kind, is_allowed, is_destination}
 use Rattle.nxt_types.specs.declared.instr.Op.{Op}
 use Rattle.nxt_types.specs.declared.kind.Kind.TheVariants.{Slong}
@@ -165,10 +165,10 @@ sort_of_denoted c stored AType = Unknown
 sort_of_denoted c stored Missing = Unknown
 
 abbrev pub sort_of_term : Source → ℕ → Class → Bool → Term → Sort
-sort_of_term src line OptionalWritten stored t =
-    if is_left_out src line t then Absent else sort_of_denoted OptionalWritten stored (denoted src line t)
-sort_of_term src line OptionalRead stored t =
-    if is_left_out src line t then Absent else sort_of_denoted OptionalRead stored (denoted src line t)
+sort_of_term src line OptionalOut stored t =
+    if is_left_out src line t then Absent else sort_of_denoted OptionalOut stored (denoted src line t)
+sort_of_term src line OptionalIn stored t =
+    if is_left_out src line t then Absent else sort_of_denoted OptionalIn stored (denoted src line t)
 sort_of_term src line c stored t = sort_of_denoted c stored (denoted src line t)
 
 abbrev pub sorts_from : Source → ℕ → Op → ℕ → List (Class × Term) → List Sort
@@ -197,7 +197,7 @@ is_number _ = false
 
 abbrev pub has_class : Source → ℕ → Class → Term → Bool
 has_class src line Offset t = is_label t
-has_class src line Clumped t = is_subroutine (denoted src line t)
+has_class src line Clump t = is_subroutine (denoted src line t)
 has_class src line Immediate t = is_number (denoted src line t)
 has_class src line c t = true
 

@@ -5,7 +5,7 @@ use Rattle.nxt_types.specs.Arithmetic.{cut}
 use Rattle.nxt_types.specs.Shapes.{Shape}
 use Rattle.nxt_types.specs.Opcodes.{classes}
 use Rattle.nxt_types.specs.declared.opcodes.Class.{Class}
-use Rattle.nxt_types.specs.declared.opcodes.Class.TheVariants.{Immediate, Offset, OptionalWritten, OptionalRead}
+use Rattle.nxt_types.specs.declared.opcodes.Class.TheVariants.{Immediate, Offset, OptionalOut, OptionalIn}
 use Rattle.nxt_types.specs.declared.instr.Op.{Op}
 use Rattle.nxt_types.specs.declared.instr.Op.TheVariants as ops
 use Rattle.nxt_types.specs.declared.kind.Cmp.{Cmp}
@@ -283,8 +283,8 @@ label_arg ls (Named (l ∷ [])) = args.Jump (unwrap_or (label_named ls l) 0)
 label_arg ls t = args.Left
 
 abbrev pub arg_of : Source → List LabelAt → ℕ → Class → Term → NbcArg
-arg_of src ls line OptionalWritten t = if is_left_out src line t then args.Left else denoted_arg OptionalWritten (denoted src line t)
-arg_of src ls line OptionalRead t = if is_left_out src line t then args.Left else denoted_arg OptionalRead (denoted src line t)
+arg_of src ls line OptionalOut t = if is_left_out src line t then args.Left else denoted_arg OptionalOut (denoted src line t)
+arg_of src ls line OptionalIn t = if is_left_out src line t then args.Left else denoted_arg OptionalIn (denoted src line t)
 arg_of src ls line Offset t = label_arg ls t
 arg_of src ls line c t = denoted_arg c (denoted src line t)
 

@@ -6,13 +6,13 @@ use Rattle.nxt_model.specs.Nbc.Forms.{Formed, formed}
 use Rattle.nxt_model.specs.Nbc.NbcRules.{TextFault, Broken, Lex, Syntax, UnknownName, TwiceNamed, WrongKind, OutOfRange, NoMain, TooMany, is_out_of_range, rank, spaces, is_taken, tells, uses_unknown, uses_unknown_type}
 use Rattle.nxt_model.specs.Nbc.Text.{program_of, source_of}
 use Rattle.nxt_model.specs.TextProgram.{Text}
-use Rattle.nxt_forms.specs.Firsts.{Ascends, HasForms, IsLeast, IsLeastPair, Keeps, first_in_blocks, first_line, first_pair, lesser}
-use Rattle.nxt_forms.specs.Held.{held_formed}
-use Rattle.nxt_forms.proofs.Laws.Ascending.{has_ascending}
-use Rattle.nxt_forms.proofs.Laws.FirstRules.{is_bad_form, least_range, least_syntax, least_unknown}
-use Rattle.nxt_forms.proofs.Laws.Ranks.{lex_refused}
-use Rattle.nxt_forms.proofs.Laws.Refused.{accepted, blocks_refused, counts_kept, kind_kept, kind_refused, main_kept, main_refused, names_refused, range_kept, range_refused, syntax_kept, syntax_refused, twice_kept, twice_refused, unknown_kept, unknown_refused}
-use Rattle.nxt_kinds.proofs.Laws.FirstWrong.{first_wrong, least_line}
+use Rattle.nxt_nbc_lines.specs.Firsts.{Ascends, HasForms, IsLeast, IsLeastPair, Keeps, first_in_blocks, first_line, first_pair, lesser}
+use Rattle.nxt_nbc_lines.specs.Held.{held_formed}
+use Rattle.nxt_nbc_lines.proofs.Laws.Ascending.{has_ascending}
+use Rattle.nxt_nbc_lines.proofs.Laws.FirstRules.{is_bad_form, least_range, least_syntax, least_unknown}
+use Rattle.nxt_nbc_lines.proofs.Laws.Ranks.{lex_refused}
+use Rattle.nxt_nbc_lines.proofs.Laws.Refused.{accepted, blocks_refused, counts_kept, kind_kept, kind_refused, main_kept, main_refused, names_refused, range_kept, range_refused, syntax_kept, syntax_refused, twice_kept, twice_refused, unknown_kept, unknown_refused}
+use Rattle.nxt_nbc_kinds.proofs.Laws.FirstWrong.{first_wrong, least_line}
 use Rattle.nxt_nbc.specs.Checked.{Spells}
 use Rattle.nxt_nbc.specs.Spaces.{least_in_spaces}
 use Rattle.nxt_nbc.proofs.SpacesTold.{twice_least}

@@ -4,7 +4,7 @@ use Rattle.std.proofs.lemmas.List.{append-nil}
 use Rattle.std.specs.Prelude.{IfSome, flat_map}
 use Rattle.nxt_edge.proofs.Laws.{Consumes-none, Appends-none}
 use Rattle.nxt_types.specs.Refusals.{IsAccepted}
-use Rattle.nxt_limits.specs.AsmRules.{Broken}
+use Rattle.nxt_asm_rules.specs.AsmRules.{Broken}
 use Rattle.nxt_machine.specs.Machines.{MachineViews}
 use Rattle.nxt_model.specs.Assembled.{assembled}
 use Rattle.nxt_model.specs.Image.{program_of}

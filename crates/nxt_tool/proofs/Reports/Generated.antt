@@ -3,14 +3,14 @@ use Rattle.std.proofs.Common.{◌≡◌, ℕ, List, [], Option, refl, ap, subst}
 use Rattle.std.specs.Prelude.{flat_map}
 use Rattle.nxt_types.specs.Refusals.{IsAccepted}
 use Rattle.nxt_gen.specs.Generator.{generated_rows, generated_text, told_of}
-use Rattle.nxt_limits.specs.AsmRules.{Broken}
+use Rattle.nxt_asm_rules.specs.AsmRules.{Broken}
 use Rattle.nxt_model.specs.Program.{start}
 use Rattle.nxt_model.specs.Step.{events_of, run}
 use Rattle.nxt_model.specs.TextProgram as program
 use Rattle.nxt_model.specs.TextProgram.{program_of}
 use Rattle.nxt_nbc.specs.Checked.{Spells}
 use Rattle.nxt_nbc.proofs.Laws.{one_program}
-use Rattle.nxt_sound_gen.proofs.Laws.Generated.{generated}
+use Rattle.nxt_gen_laws.proofs.Laws.Generated.{generated}
 use Rattle.nxt_tool.specs.Assembling.{IsRefusedText}
 use Rattle.nxt_tool.specs.Due.{Answer, Generated, Meets, described_answer}
 use Rattle.nxt_tool.specs.declared.fault.Refusal.{Refusal}

@@ -1,7 +1,7 @@
 -- What was told goes on to a whole report, and what an image may tell its text may tell.
 use Rattle.std.proofs.Common.{ℕ, List, ◌++◌, Option, None, sym, subst}
 use Rattle.nxt_types.specs.Refusals.{IsAccepted}
-use Rattle.nxt_limits.specs.AsmRules.{Broken}
+use Rattle.nxt_asm_rules.specs.AsmRules.{Broken}
 use Rattle.nxt_model.specs.Assembled.{assembled}
 use Rattle.nxt_model.specs.Dump.{Mark}
 use Rattle.nxt_model.specs.declared.event.Event.{Event}
@@ -13,7 +13,7 @@ use Rattle.nxt_layout.specs.Start.{image_of}
 use Rattle.nxt_dumps.proofs.Laws.Files.{few_entries, runnable_parts}
 use Rattle.nxt_dumps.proofs.Laws.GoesOn.{told_goes_on}
 use Rattle.nxt_nbc.specs.Checked.{Spells}
-use Rattle.nxt_sound_runs.proofs.Spelled.{spelled_faithful, spelled_runnable}
+use Rattle.nxt_asm_laws_runs.proofs.Spelled.{spelled_faithful, spelled_runnable}
 use Rattle.nxt_tool.specs.Accepted.{IsAcceptedAs}
 
 -- whatever events told and whatever comes, some whole text begins with what was told

@@ -7,14 +7,14 @@ use Rattle.nxt_edge.proofs.Laws.{Appends-none}
 use Rattle.nxt_model.specs.Nbc.NbcRules as text_rules
 use Rattle.nxt_model.specs.TextProgram.{Text}
 use Rattle.nxt_rxe.specs.Files.{file_of}
-use Rattle.nxt_forms.specs.declared.fault.NbcFault.{NbcFault}
-use Rattle.nxt_forms.specs.declared.fault.NbcFault.TheVariants as faults
+use Rattle.nxt_nbc_lines.specs.declared.fault.NbcFault.{NbcFault}
+use Rattle.nxt_nbc_lines.specs.declared.fault.NbcFault.TheVariants as faults
 use Rattle.nxt_nbc.specs.Checked.{Spells}
 use Rattle.nxt_nbc.specs.Faults.{fault_seen}
 use Rattle.nxt_nbc.proofs.Laws.Decided.{Decided, text_or_refusal}
-use Rattle.nxt_parts.specs.AssembledParts.{parts_of}
-use Rattle.nxt_limits.specs.AsmRules.{start_footprint}
-use Rattle.nxt_limits.proofs.Laws.Decided.{Judged, image_or_refusal}
+use Rattle.nxt_asm_parts.specs.AssembledParts.{parts_of}
+use Rattle.nxt_asm_rules.specs.AsmRules.{start_footprint}
+use Rattle.nxt_asm_rules.proofs.Laws.Decided.{Judged, image_or_refusal}
 use Rattle.nxt_tool.specs.Assembling.{assembled_line}
 use Rattle.nxt_tool.specs.Due.{Answer, Answers, AssembledText, Assembles, answer, assembled_answer, read_status, refused_answer}
 use Rattle.nxt_tool.specs.declared.fault.Refusal.TheVariants as refusals

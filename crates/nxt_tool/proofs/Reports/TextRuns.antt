@@ -11,8 +11,8 @@ use Rattle.nxt_model.specs.TextProgram.{Text}
 use Rattle.nxt_script.specs.Rows.{rows}
 use Rattle.nxt_nbc.specs.Checked.{Spells}
 use Rattle.nxt_nbc.proofs.Laws.Decided.{Decided, text_or_refusal}
-use Rattle.nxt_limits.specs.AsmRules.{Broken}
-use Rattle.nxt_limits.proofs.Laws.Decided.{Judged, image_or_refusal}
+use Rattle.nxt_asm_rules.specs.AsmRules.{Broken}
+use Rattle.nxt_asm_rules.proofs.Laws.Decided.{Judged, image_or_refusal}
 use Rattle.nxt_report.specs.declared.status.Status.TheVariants as status
 use Rattle.nxt_tool.specs.Assembling.{IsRefusedText}
 use Rattle.nxt_tool.specs.Due.{Answer, Meets, OnText, RunOn, RunOnText, RunText, answer, read_status, refused_answer}

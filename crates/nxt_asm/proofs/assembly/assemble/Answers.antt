@@ -4,12 +4,12 @@ use Rattle.nxt_types.specs.Refusals.{IsAccepted}
 use Rattle.nxt_model.specs.TextProgram.{text_of}
 use Rattle.nxt_model.specs.declared.nbc.NbcProgram.{NbcProgram}
 use Rattle.nxt_nbc.specs.Checked.{IsParsed}
-use Rattle.nxt_parts.specs.AssembledParts.{parts_of}
-use Rattle.nxt_sound.proofs.Laws.Texts.{sound}
-use Rattle.nxt_limits.specs.AsmRules.{Broken}
-use Rattle.nxt_limits.specs.declared.fault.AsmFault.{AsmFault}
-use Rattle.nxt_sound_runs.specs.Runs.{RunsAs}
-use Rattle.nxt_sound_runs.proofs.Laws.{runs}
+use Rattle.nxt_asm_parts.specs.AssembledParts.{parts_of}
+use Rattle.nxt_asm_laws.proofs.Laws.Texts.{sound}
+use Rattle.nxt_asm_rules.specs.AsmRules.{Broken}
+use Rattle.nxt_asm_rules.specs.declared.fault.AsmFault.{AsmFault}
+use Rattle.nxt_asm_laws_runs.specs.Runs.{RunsAs}
+use Rattle.nxt_asm_laws_runs.proofs.Laws.{runs}
 use Rattle.nxt_asm.specs.declared.assembly.Assembled.{Assembled}
 use Rattle.nxt_asm.proofs.assembly.assemble.Goals as goal
 

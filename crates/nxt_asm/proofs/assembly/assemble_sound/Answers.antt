@@ -2,11 +2,11 @@ use Rattle.std.proofs.Common.{◌≡◌, ap, sym, subst, ◌∙◌}
 use Rattle.nxt_types.specs.Refusals.{IsAccepted}
 use Rattle.nxt_model.specs.TextProgram.{text_of}
 use Rattle.nxt_model.specs.declared.nbc.NbcProgram.{NbcProgram}
-use Rattle.nxt_parts.specs.AssembledParts.{parts_of}
+use Rattle.nxt_asm_parts.specs.AssembledParts.{parts_of}
 use Rattle.nxt_rxe.specs.Files.{HasCounts}
-use Rattle.nxt_limits.specs.AsmRules.{Broken}
-use Rattle.nxt_limits.specs.Fits.{PartsFit}
-use Rattle.nxt_limits.proofs.Laws.Fitting.{parts_fit}
+use Rattle.nxt_asm_rules.specs.AsmRules.{Broken}
+use Rattle.nxt_asm_rules.specs.Fits.{PartsFit}
+use Rattle.nxt_asm_rules.proofs.Laws.Fitting.{parts_fit}
 use Rattle.nxt_asm.proofs.assembly.assemble_sound.Goals as goal
 
 kept_by : (p q : NbcProgram) → q ≡ p → IsAccepted (Broken (text_of q)) → IsAccepted (Broken (text_of p))

@@ -1,8 +1,8 @@
 use Rattle.std.proofs.Common.{◌<◌, length, subst, arith}
 use Rattle.std.proofs.lemmas.List.{take_all}
-use Rattle.nxt_limits.specs.AsmRules.{far_in_body}
-use Rattle.nxt_forms.specs.Firsts.{IsLeast}
-use Rattle.nxt_limits.proofs.Laws.FarJumps.{body_more}
+use Rattle.nxt_asm_rules.specs.AsmRules.{far_in_body}
+use Rattle.nxt_nbc_lines.specs.Firsts.{IsLeast}
+use Rattle.nxt_asm_rules.proofs.Laws.FarJumps.{body_more}
 use Rattle.nxt_asm.proofs.jumps.far_in_body.Goals as goal
 
 pub loop-j-preserved : goal.loop-j-preserved

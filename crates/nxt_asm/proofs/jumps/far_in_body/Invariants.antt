@@ -1,8 +1,8 @@
 -- The least line of the statements before this one.
 use Rattle.std.proofs.Common.{◌≡◌, ℕ, take}
 use Rattle.nxt_model.specs.Assembled.{starts_from}
-use Rattle.nxt_limits.specs.AsmRules.{far_in_body}
-use Rattle.nxt_forms.specs.Firsts.{IsLeast}
+use Rattle.nxt_asm_rules.specs.AsmRules.{far_in_body}
+use Rattle.nxt_nbc_lines.specs.Firsts.{IsLeast}
 use Rattle.nxt_asm.proofs.jumps.far_in_body.Given as goal
 
 abbrev pub invariant-loop-j : goal.invariant-loop-j

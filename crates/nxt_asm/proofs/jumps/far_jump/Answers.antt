@@ -1,9 +1,9 @@
 use Rattle.std.proofs.Common.{◌<◌, [], length, ap, ◌∙◌, subst, arith}
 use Rattle.std.specs.Prelude.{slice_index_or}
 use Rattle.std.proofs.lemmas.List.{take_all}
-use Rattle.nxt_limits.specs.AsmRules.{far_in_blocks}
-use Rattle.nxt_forms.specs.Firsts.{IsLeast}
-use Rattle.nxt_limits.proofs.Laws.FarJumps.{blocks_more}
+use Rattle.nxt_asm_rules.specs.AsmRules.{far_in_blocks}
+use Rattle.nxt_nbc_lines.specs.Firsts.{IsLeast}
+use Rattle.nxt_asm_rules.proofs.Laws.FarJumps.{blocks_more}
 use Rattle.nxt_asm.proofs.jumps.far_jump.Goals as goal
 
 pub loop-i-preserved : goal.loop-i-preserved

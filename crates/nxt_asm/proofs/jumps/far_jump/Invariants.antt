@@ -1,8 +1,8 @@
 -- The least line of the blocks before this one.
 use Rattle.std.proofs.Common.{◌≡◌, take}
-use Rattle.nxt_limits.specs.AsmRules.{far_in_blocks}
-use Rattle.nxt_forms.specs.Firsts.{IsLeast}
-use Rattle.nxt_parts.specs.Starts.{blocks_starts}
+use Rattle.nxt_asm_rules.specs.AsmRules.{far_in_blocks}
+use Rattle.nxt_nbc_lines.specs.Firsts.{IsLeast}
+use Rattle.nxt_asm_parts.specs.Starts.{blocks_starts}
 use Rattle.nxt_asm.proofs.jumps.far_jump.Given as goal
 
 abbrev pub invariant-loop-i : goal.invariant-loop-i

@@ -1,7 +1,7 @@
 use Rattle.std.proofs.Common.{sym, ap, ◌∙◌}
 use Rattle.std.specs.List.{list_any}
-use Rattle.nxt_limits.specs.AsmRules.{jumps_far}
-use Rattle.nxt_limits.proofs.Laws.FarJumps.{least_here, least_nowhere}
+use Rattle.nxt_asm_rules.specs.AsmRules.{jumps_far}
+use Rattle.nxt_asm_rules.proofs.Laws.FarJumps.{least_here, least_nowhere}
 use Rattle.nxt_asm.proofs.jumps.far_line.Goals as goal
 
 pub returns-then-has_far_jump : goal.returns-then-has_far_jump

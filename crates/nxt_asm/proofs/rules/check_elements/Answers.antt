@@ -1,8 +1,8 @@
 use Rattle.std.proofs.Common.{◌∙◌, sym}
 use Rattle.nxt_model.specs.TextProgram.{text_of}
-use Rattle.nxt_limits.specs.AsmRules.{large_element}
+use Rattle.nxt_asm_rules.specs.AsmRules.{large_element}
 use Rattle.nxt_asm.proofs.CountedTogether.{large_is, shapes_seen_in}
-use Rattle.nxt_limits.proofs.Laws.FirstBroken.{element_refused, none_held, sizes_kept, some_held}
+use Rattle.nxt_asm_rules.proofs.Laws.FirstBroken.{element_refused, none_held, sizes_kept, some_held}
 use Rattle.nxt_asm.proofs.rules.check_elements.Goals as goal
 
 pub returns-in_ok-size_told-in-Some-clause-refused : goal.returns-in_ok-size_told-in-Some-clause-refused

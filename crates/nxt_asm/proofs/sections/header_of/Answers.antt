@@ -2,7 +2,7 @@ use Rattle.std.proofs.Common.{length, ap, arith}
 use Rattle.nxt_types.specs.Shapes.{members}
 use Rattle.nxt_model.specs.Assembled.{all_shapes, leaves_sizes, places}
 use Rattle.nxt_model.specs.TextProgram.{text_of}
-use Rattle.nxt_limits.proofs.Laws.Counts.{code_length, records_length, table_length}
+use Rattle.nxt_asm_rules.proofs.Laws.Counts.{code_length, records_length, table_length}
 use Rattle.nxt_asm.proofs.sections.header_of.Goals as goal
 
 pub overflow_cast-result : goal.overflow_cast-result

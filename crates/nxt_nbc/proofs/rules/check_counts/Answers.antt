@@ -1,7 +1,7 @@
 use Rattle.std.proofs.Common.{◌∙◌, sym, true, false}
-use Rattle.nxt_forms.specs.Seen.{formed_seen}
-use Rattle.nxt_forms.proofs.Laws.Refused.{blocks_refused, counts_kept, main_kept, main_refused, names_refused}
-use Rattle.nxt_names.specs.SourceSeen.{source_seen}
+use Rattle.nxt_nbc_lines.specs.Seen.{formed_seen}
+use Rattle.nxt_nbc_lines.proofs.Laws.Refused.{blocks_refused, counts_kept, main_kept, main_refused, names_refused}
+use Rattle.nxt_nbc_names.specs.SourceSeen.{source_seen}
 use Rattle.nxt_nbc.proofs.CountsTold.{few_names, few_told, main_told, many_names, many_told}
 use Rattle.nxt_nbc.proofs.rules.check_counts.Goals as goal
 

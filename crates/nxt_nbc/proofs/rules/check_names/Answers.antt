@@ -1,8 +1,8 @@
 use Rattle.std.proofs.Common.{subst}
 use Rattle.nxt_model.specs.Nbc.NbcRules.{TwiceNamed, UnknownName, tells}
-use Rattle.nxt_forms.specs.Firsts.{IsLeast}
-use Rattle.nxt_forms.specs.Seen.{formed_seen}
-use Rattle.nxt_forms.proofs.Laws.Refused.{twice_refused, unknown_kept, unknown_refused}
+use Rattle.nxt_nbc_lines.specs.Firsts.{IsLeast}
+use Rattle.nxt_nbc_lines.specs.Seen.{formed_seen}
+use Rattle.nxt_nbc_lines.proofs.Laws.Refused.{twice_refused, unknown_kept, unknown_refused}
 use Rattle.nxt_nbc.proofs.rules.check_names.Goals as goal
 
 pub returns-in-Some-clause-refused : goal.returns-in-Some-clause-refused

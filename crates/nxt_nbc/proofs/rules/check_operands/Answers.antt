@@ -1,8 +1,8 @@
 use Rattle.std.proofs.Common.{subst}
 use Rattle.nxt_model.specs.Nbc.NbcRules.{OutOfRange, WrongKind, tells}
-use Rattle.nxt_forms.specs.Firsts.{IsLeast, IsLeastPair}
-use Rattle.nxt_forms.specs.Seen.{formed_seen}
-use Rattle.nxt_forms.proofs.Laws.Refused.{kind_kept, kind_refused, range_kept, range_refused}
+use Rattle.nxt_nbc_lines.specs.Firsts.{IsLeast, IsLeastPair}
+use Rattle.nxt_nbc_lines.specs.Seen.{formed_seen}
+use Rattle.nxt_nbc_lines.proofs.Laws.Refused.{kind_kept, kind_refused, range_kept, range_refused}
 use Rattle.nxt_nbc.proofs.rules.check_operands.Goals as goal
 
 pub returns-in-Some-clause-refused : goal.returns-in-Some-clause-refused

@@ -2,10 +2,10 @@ use Rattle.std.proofs.Common.{◌+◌, ◌∙◌, ℕ, List, [], nat_lt, ap, sym
 use Rattle.nxt_model.specs.Nbc.Forms.{Form}
 use Rattle.nxt_model.specs.Nbc.Text.{Block}
 use Rattle.nxt_model.specs.Nbc.NbcRules.{Declared, TwiceNamed, is_taken, label_space, member_spaces, shared_name, tells}
-use Rattle.nxt_forms.specs.Firsts.{IsLeast, lesser}
-use Rattle.nxt_forms.specs.Seen.{formed_seen, line_form_seen}
-use Rattle.nxt_names.specs.BlocksSeen.{block_seen}
-use Rattle.nxt_names.specs.SourceSeen.{source_seen}
+use Rattle.nxt_nbc_lines.specs.Firsts.{IsLeast, lesser}
+use Rattle.nxt_nbc_lines.specs.Seen.{formed_seen, line_form_seen}
+use Rattle.nxt_nbc_names.specs.BlocksSeen.{block_seen}
+use Rattle.nxt_nbc_names.specs.SourceSeen.{source_seen}
 use Rattle.nxt_nbc.specs.Spaces.{least_again, least_in_spaces}
 use Rattle.nxt_nbc.specs.SpacesSeen.{Tells}
 use Rattle.nxt_nbc.proofs.SpacesTold.{twice_in, count_in, twice_told, count_told}

@@ -2,10 +2,10 @@ use Rattle.std.proofs.Common.{◌+◌, ◌-◌, ◌^◌, min, ◌∙◌, List, [
 use Rattle.std.proofs.lemmas.List.{at_drop_more, drop_all}
 use Rattle.nxt_model.specs.Nbc.Text.{LabelAt}
 use Rattle.nxt_model.specs.Nbc.NbcRules.{Declared, is_taken}
-use Rattle.nxt_names.specs.LabelsSeen.{label_seen}
-use Rattle.nxt_names.specs.SourceSeen.{source_seen}
+use Rattle.nxt_nbc_names.specs.LabelsSeen.{label_seen}
+use Rattle.nxt_nbc_names.specs.SourceSeen.{source_seen}
 use Rattle.nxt_nbc.specs.Spaces.{least_again}
-use Rattle.nxt_names.specs.declared.labels.Label.{Label}
+use Rattle.nxt_nbc_names.specs.declared.labels.Label.{Label}
 use Rattle.nxt_nbc.proofs.SpaceLoops.{none_read, name_read, all_read}
 use Rattle.nxt_nbc.proofs.spaces.label_space.Goals as goal
 

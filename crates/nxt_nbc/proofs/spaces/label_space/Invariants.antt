@@ -1,7 +1,7 @@
 use Rattle.std.proofs.Common.{drop, map}
 use Rattle.nxt_model.specs.Nbc.NbcRules.{is_taken}
-use Rattle.nxt_names.specs.LabelsSeen.{label_seen}
-use Rattle.nxt_names.specs.SourceSeen.{source_seen}
+use Rattle.nxt_nbc_names.specs.LabelsSeen.{label_seen}
+use Rattle.nxt_nbc_names.specs.SourceSeen.{source_seen}
 use Rattle.nxt_nbc.proofs.SpaceLoops.{Declares}
 use Rattle.nxt_nbc.proofs.spaces.label_space.Given as goal
 

@@ -1,10 +1,10 @@
 use Rattle.std.proofs.Common.{◌+◌, ◌∙◌, ◌∷◌, List, [], refl, ap, sym, drop, length, map}
 use Rattle.std.proofs.lemmas.List.{at_drop_more, drop_all}
 use Rattle.nxt_model.specs.Nbc.NbcRules.{Declared, is_taken, label_space}
-use Rattle.nxt_names.specs.BlocksSeen.{block_seen}
-use Rattle.nxt_names.specs.SourceSeen.{source_seen}
+use Rattle.nxt_nbc_names.specs.BlocksSeen.{block_seen}
+use Rattle.nxt_nbc_names.specs.SourceSeen.{source_seen}
 use Rattle.nxt_nbc.specs.Spaces.{least_again}
-use Rattle.nxt_names.specs.declared.blocks.Block.{Block}
+use Rattle.nxt_nbc_names.specs.declared.blocks.Block.{Block}
 use Rattle.nxt_nbc.proofs.SpaceLoops.{no_space_read, space_read, all_spaces_read}
 use Rattle.nxt_nbc.proofs.spaces.label_spaces.Goals as goal
 

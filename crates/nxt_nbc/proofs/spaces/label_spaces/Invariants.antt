@@ -1,7 +1,7 @@
 use Rattle.std.proofs.Common.{drop, map}
 use Rattle.nxt_model.specs.Nbc.NbcRules.{is_taken, label_space}
-use Rattle.nxt_names.specs.BlocksSeen.{block_seen}
-use Rattle.nxt_names.specs.SourceSeen.{source_seen}
+use Rattle.nxt_nbc_names.specs.BlocksSeen.{block_seen}
+use Rattle.nxt_nbc_names.specs.SourceSeen.{source_seen}
 use Rattle.nxt_nbc.proofs.SpaceLoops.{Tell}
 use Rattle.nxt_nbc.proofs.spaces.label_spaces.Given as goal
 

@@ -1,7 +1,7 @@
 use Rattle.std.proofs.Common.{drop, map}
 use Rattle.nxt_model.specs.Nbc.NbcRules.{is_taken, members_in}
-use Rattle.nxt_forms.specs.Seen.{line_form_seen}
-use Rattle.nxt_names.specs.SourceSeen.{source_seen}
+use Rattle.nxt_nbc_lines.specs.Seen.{line_form_seen}
+use Rattle.nxt_nbc_names.specs.SourceSeen.{source_seen}
 use Rattle.nxt_nbc.proofs.SpaceLoops.{Declares}
 use Rattle.nxt_nbc.proofs.spaces.member_space.Given as goal
 

@@ -1,8 +1,8 @@
 use Rattle.std.proofs.Common.{◌+◌, [], refl, ap, sym, subst, drop, length, map}
 use Rattle.std.proofs.lemmas.List.{take_rest}
 use Rattle.nxt_model.specs.Nbc.NbcRules.{is_taken, members_in, member_spaces}
-use Rattle.nxt_forms.specs.Seen.{line_form_seen}
-use Rattle.nxt_names.specs.SourceSeen.{source_seen}
+use Rattle.nxt_nbc_lines.specs.Seen.{line_form_seen}
+use Rattle.nxt_nbc_names.specs.SourceSeen.{source_seen}
 use Rattle.nxt_nbc.specs.Spaces.{least_again}
 use Rattle.nxt_nbc.specs.SpacesSeen.{Tells}
 use Rattle.nxt_nbc.proofs.SpaceLoops.{Tell, no_space_read, space_read, as_spaces_left, all_spaces_read}

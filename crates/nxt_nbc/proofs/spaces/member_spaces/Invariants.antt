@@ -1,7 +1,7 @@
 use Rattle.std.proofs.Common.{drop, map}
 use Rattle.nxt_model.specs.Nbc.NbcRules.{is_taken, member_spaces}
-use Rattle.nxt_forms.specs.Seen.{line_form_seen}
-use Rattle.nxt_names.specs.SourceSeen.{source_seen}
+use Rattle.nxt_nbc_lines.specs.Seen.{line_form_seen}
+use Rattle.nxt_nbc_names.specs.SourceSeen.{source_seen}
 use Rattle.nxt_nbc.proofs.SpaceLoops.{Tell}
 use Rattle.nxt_nbc.proofs.spaces.member_spaces.Given as goal
 

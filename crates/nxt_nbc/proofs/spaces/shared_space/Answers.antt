@@ -1,7 +1,7 @@
 use Rattle.std.proofs.Common.{◌+◌, ◌-◌, ◌^◌, min, ◌∙◌, Some, None, ap, subst, sym, drop, map, filter_map}
 use Rattle.nxt_model.specs.Nbc.NbcRules.{is_taken, shared_name}
-use Rattle.nxt_forms.specs.Seen.{line_form_seen}
-use Rattle.nxt_names.specs.SourceSeen.{source_seen}
+use Rattle.nxt_nbc_lines.specs.Seen.{line_form_seen}
+use Rattle.nxt_nbc_names.specs.SourceSeen.{source_seen}
 use Rattle.nxt_nbc.proofs.SpaceLoops.{Declares, name_read, as_left, all_read}
 use Rattle.nxt_nbc.proofs.SpaceLines.{no_lines, shared_from}
 use Rattle.nxt_nbc.proofs.spaces.shared_space.Goals as goal

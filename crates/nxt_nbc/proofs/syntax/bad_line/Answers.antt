@@ -1,10 +1,10 @@
 use Rattle.std.proofs.Common.{map, sym, ap, subst, ◌∙◌}
 use Rattle.nxt_model.specs.Nbc.Text.{Source}
 use Rattle.nxt_model.specs.Nbc.NbcRules.{Syntax, tells}
-use Rattle.nxt_forms.specs.Firsts.{IsLeast, first_line, lesser}
-use Rattle.nxt_forms.specs.Seen.{formed_seen, line_form_seen}
-use Rattle.nxt_forms.proofs.Laws.FirstRules.{least_syntax}
-use Rattle.nxt_names.specs.Structs.{structs_in}
+use Rattle.nxt_nbc_lines.specs.Firsts.{IsLeast, first_line, lesser}
+use Rattle.nxt_nbc_lines.specs.Seen.{formed_seen, line_form_seen}
+use Rattle.nxt_nbc_lines.proofs.Laws.FirstRules.{least_syntax}
+use Rattle.nxt_nbc_names.specs.Structs.{structs_in}
 use Rattle.nxt_nbc.specs.Syntax.{is_bad_form}
 use Rattle.nxt_nbc.proofs.syntax.bad_line.Goals as goal
 

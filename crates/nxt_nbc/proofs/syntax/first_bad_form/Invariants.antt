@@ -1,7 +1,7 @@
 use Rattle.std.proofs.Common.{◌≡◌, drop, map}
-use Rattle.nxt_forms.specs.Firsts.{first_line}
-use Rattle.nxt_forms.specs.Seen.{line_form_seen}
-use Rattle.nxt_names.specs.Structs.{structs_in}
+use Rattle.nxt_nbc_lines.specs.Firsts.{first_line}
+use Rattle.nxt_nbc_lines.specs.Seen.{line_form_seen}
+use Rattle.nxt_nbc_names.specs.Structs.{structs_in}
 use Rattle.nxt_nbc.specs.Syntax.{is_bad_form}
 use Rattle.nxt_nbc.proofs.syntax.first_bad_form.Given as goal
 

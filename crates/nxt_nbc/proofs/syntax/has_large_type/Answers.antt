@@ -2,9 +2,9 @@ use Rattle.std.proofs.Common.{◌∙◌, ap}
 use Rattle.nxt_types.specs.Shapes.{has_list}
 use Rattle.nxt_types.specs.Names.{size}
 use Rattle.nxt_model.specs.Nbc.Types.{depth_of, shape_of, types_at}
-use Rattle.nxt_forms.specs.Seen.{type_seen}
-use Rattle.nxt_names.specs.Extents.{extent_of}
-use Rattle.nxt_names.specs.Structs.{structs_in}
+use Rattle.nxt_nbc_lines.specs.Seen.{type_seen}
+use Rattle.nxt_nbc_names.specs.Extents.{extent_of}
+use Rattle.nxt_nbc_names.specs.Structs.{structs_in}
 use Rattle.nxt_nbc.proofs.syntax.has_large_type.Goals as goal
 
 pub returns : goal.returns

@@ -1,14 +1,14 @@
 use Rattle.std.proofs.Common.{Ok, map, sym, ap, subst, ◌∙◌}
 use Rattle.nxt_model.specs.Nbc.Forms.{Formed}
 use Rattle.nxt_model.specs.Nbc.Text.{Source, program_of, source_of}
-use Rattle.nxt_forms.specs.Firsts.{Ascends, HasForms}
-use Rattle.nxt_forms.specs.Seen.{formed_seen, line_form_seen}
-use Rattle.nxt_forms.specs.Whole.{BlocksAreWhole}
-use Rattle.nxt_forms.proofs.Laws.Refused.{accepted}
-use Rattle.nxt_forms.proofs.Laws.Ascending.{has_ascending}
-use Rattle.nxt_forms.proofs.Laws.Whole.{blocks_whole, has_lines}
-use Rattle.nxt_program.specs.Fits.{SourceFits}
-use Rattle.nxt_program.proofs.Laws.Fits.{source_fits}
+use Rattle.nxt_nbc_lines.specs.Firsts.{Ascends, HasForms}
+use Rattle.nxt_nbc_lines.specs.Seen.{formed_seen, line_form_seen}
+use Rattle.nxt_nbc_lines.specs.Whole.{BlocksAreWhole}
+use Rattle.nxt_nbc_lines.proofs.Laws.Refused.{accepted}
+use Rattle.nxt_nbc_lines.proofs.Laws.Ascending.{has_ascending}
+use Rattle.nxt_nbc_lines.proofs.Laws.Whole.{blocks_whole, has_lines}
+use Rattle.nxt_nbc_program.specs.Fits.{SourceFits}
+use Rattle.nxt_nbc_program.proofs.Laws.Fits.{source_fits}
 use Rattle.nxt_nbc.proofs.CountsTold.{few_blocks}
 use Rattle.nxt_nbc.proofs.text.parse.Goals as goal
 

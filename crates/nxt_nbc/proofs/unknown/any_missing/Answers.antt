@@ -4,8 +4,8 @@ use Rattle.std.proofs.lemmas.List.Folds.{list_any_at}
 use Rattle.std.proofs.Common.{arith}
 use Rattle.nxt_model.specs.Nbc.NbcRules.{is_missing}
 use Rattle.nxt_model.specs.Nbc.Text.{denoted}
-use Rattle.nxt_forms.specs.Seen.{term_seen, terms_seen}
-use Rattle.nxt_names.specs.SourceSeen.{source_seen}
+use Rattle.nxt_nbc_lines.specs.Seen.{term_seen, terms_seen}
+use Rattle.nxt_nbc_names.specs.SourceSeen.{source_seen}
 use Rattle.nxt_nbc.proofs.unknown.any_missing.Goals as goal
 
 pub returns-then-branch : goal.returns-then-branch

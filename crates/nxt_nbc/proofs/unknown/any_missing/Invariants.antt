@@ -1,7 +1,7 @@
 use Rattle.std.proofs.Common.{◌≡◌, false, take}
 use Rattle.nxt_model.specs.Nbc.NbcRules.{any_missing}
-use Rattle.nxt_forms.specs.Seen.{terms_seen}
-use Rattle.nxt_names.specs.SourceSeen.{source_seen}
+use Rattle.nxt_nbc_lines.specs.Seen.{terms_seen}
+use Rattle.nxt_nbc_names.specs.SourceSeen.{source_seen}
 use Rattle.nxt_nbc.proofs.unknown.any_missing.Given as goal
 
 -- the operands so far are there

@@ -3,9 +3,9 @@ use Rattle.std.proofs.lemmas.Bool.{cases_lt}
 use Rattle.std.proofs.lemmas.List.{get_or_default}
 use Rattle.nxt_types.specs.Opcodes.{class_in, row}
 use Rattle.nxt_model.specs.Nbc.NbcRules.{is_unknown}
-use Rattle.nxt_forms.specs.Seen.{term_seen}
-use Rattle.nxt_forms.specs.declared.terms.Term.{Term}
-use Rattle.nxt_names.specs.SourceSeen.{source_seen}
+use Rattle.nxt_nbc_lines.specs.Seen.{term_seen}
+use Rattle.nxt_nbc_lines.specs.declared.terms.Term.{Term}
+use Rattle.nxt_nbc_names.specs.SourceSeen.{source_seen}
 use Rattle.nxt_nbc.proofs.UnknownNames.{any_term, none_of_terms}
 use Rattle.nxt_nbc.proofs.unknown.any_unknown.Goals as goal
 

@@ -1,9 +1,9 @@
 use Rattle.std.proofs.Common.{◌≡◌, ◌<◌, ℕ, false, get_or}
 use Rattle.nxt_types.specs.Opcodes.{class_in, row}
 use Rattle.nxt_model.specs.Nbc.NbcRules.{is_unknown}
-use Rattle.nxt_forms.specs.Seen.{term_seen}
-use Rattle.nxt_forms.specs.declared.terms.Term.{Term}
-use Rattle.nxt_names.specs.SourceSeen.{source_seen}
+use Rattle.nxt_nbc_lines.specs.Seen.{term_seen}
+use Rattle.nxt_nbc_lines.specs.declared.terms.Term.{Term}
+use Rattle.nxt_nbc_names.specs.SourceSeen.{source_seen}
 use Rattle.nxt_nbc.proofs.unknown.any_unknown.Given as goal
 
 -- the operands so far are there

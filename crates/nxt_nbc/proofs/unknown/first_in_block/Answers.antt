@@ -1,4 +1,4 @@
-use Rattle.nxt_forms.proofs.Laws.Whole.{line_whole_at}
+use Rattle.nxt_nbc_lines.proofs.Laws.Whole.{line_whole_at}
 use Rattle.nxt_nbc.proofs.unknown.first_in_block.Goals as goal
 
 pub uses_unknown-requires : goal.uses_unknown-requires

@@ -2,10 +2,10 @@ use Rattle.std.proofs.Common.{◌≡◌, ℕ, Bool, drop, map}
 use Rattle.nxt_model.specs.Nbc.Forms.{Form}
 use Rattle.nxt_model.specs.Nbc.Text.{labels_from}
 use Rattle.nxt_model.specs.Nbc.NbcRules.{uses_unknown}
-use Rattle.nxt_forms.specs.Firsts.{first_line}
-use Rattle.nxt_forms.specs.Seen.{line_form_seen}
-use Rattle.nxt_names.specs.BlocksSeen.{block_seen}
-use Rattle.nxt_names.specs.SourceSeen.{source_seen}
+use Rattle.nxt_nbc_lines.specs.Firsts.{first_line}
+use Rattle.nxt_nbc_lines.specs.Seen.{line_form_seen}
+use Rattle.nxt_nbc_names.specs.BlocksSeen.{block_seen}
+use Rattle.nxt_nbc_names.specs.SourceSeen.{source_seen}
 use Rattle.nxt_nbc.proofs.unknown.first_in_block.Given as goal
 
 -- none of the lines so far uses what isn't there

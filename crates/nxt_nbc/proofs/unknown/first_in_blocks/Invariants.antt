@@ -2,9 +2,9 @@ use Rattle.std.proofs.Common.{◌≡◌, ℕ, Bool, List, drop, map}
 use Rattle.nxt_model.specs.Nbc.Forms.{Form}
 use Rattle.nxt_model.specs.Nbc.Text.{LabelAt}
 use Rattle.nxt_model.specs.Nbc.NbcRules.{uses_unknown}
-use Rattle.nxt_forms.specs.Firsts.{first_in_blocks, lesser}
-use Rattle.nxt_names.specs.BlocksSeen.{block_seen}
-use Rattle.nxt_names.specs.SourceSeen.{source_seen}
+use Rattle.nxt_nbc_lines.specs.Firsts.{first_in_blocks, lesser}
+use Rattle.nxt_nbc_names.specs.BlocksSeen.{block_seen}
+use Rattle.nxt_nbc_names.specs.SourceSeen.{source_seen}
 use Rattle.nxt_nbc.proofs.unknown.first_in_blocks.Given as goal
 
 -- the first line of the blocks so far, and that of those that are left

@@ -1,8 +1,8 @@
 use Rattle.std.proofs.Common.{◌≡◌, drop, map}
 use Rattle.nxt_model.specs.Nbc.NbcRules.{uses_unknown_type}
-use Rattle.nxt_forms.specs.Firsts.{first_line}
-use Rattle.nxt_forms.specs.Seen.{line_form_seen}
-use Rattle.nxt_names.specs.SourceSeen.{source_seen}
+use Rattle.nxt_nbc_lines.specs.Firsts.{first_line}
+use Rattle.nxt_nbc_lines.specs.Seen.{line_form_seen}
+use Rattle.nxt_nbc_names.specs.SourceSeen.{source_seen}
 use Rattle.nxt_nbc.proofs.unknown.first_unknown_type.Given as goal
 
 -- none of the lines so far declares something of an unknown type

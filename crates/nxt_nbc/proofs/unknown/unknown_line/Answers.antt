@@ -2,11 +2,11 @@ use Rattle.std.proofs.Common.{ℕ, Bool, List, ◌∙◌, ap, sym, subst, map}
 use Rattle.nxt_model.specs.Nbc.Forms.{Form}
 use Rattle.nxt_model.specs.Nbc.Text.{LabelAt, Source}
 use Rattle.nxt_model.specs.Nbc.NbcRules.{UnknownName, tells, uses_unknown, uses_unknown_type}
-use Rattle.nxt_forms.specs.Firsts.{IsLeast, first_in_blocks, first_line, lesser}
-use Rattle.nxt_forms.specs.Seen.{formed_seen, line_form_seen}
-use Rattle.nxt_forms.specs.Whole.{BlocksAreWhole}
-use Rattle.nxt_forms.proofs.Laws.Whole.{blocks_whole}
-use Rattle.nxt_names.specs.SourceSeen.{source_seen}
+use Rattle.nxt_nbc_lines.specs.Firsts.{IsLeast, first_in_blocks, first_line, lesser}
+use Rattle.nxt_nbc_lines.specs.Seen.{formed_seen, line_form_seen}
+use Rattle.nxt_nbc_lines.specs.Whole.{BlocksAreWhole}
+use Rattle.nxt_nbc_lines.proofs.Laws.Whole.{blocks_whole}
+use Rattle.nxt_nbc_names.specs.SourceSeen.{source_seen}
 use Rattle.nxt_nbc.proofs.UnknownNames.{unknown_told}
 use Rattle.nxt_nbc.proofs.unknown.unknown_line.Goals as goal
 

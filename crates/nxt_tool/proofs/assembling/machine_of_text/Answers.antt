@@ -8,8 +8,8 @@ use Rattle.nxt_rxe.specs.Files.{Fits}
 use Rattle.nxt_rxe.specs.declared.parts.Parts.{Parts}
 use Rattle.nxt_machine.specs.Machines.{MachineViews}
 use Rattle.nxt_nbc.specs.Checked.{IsParsed}
-use Rattle.nxt_parts.specs.AssembledParts.{parts_of}
-use Rattle.nxt_limits.specs.AsmRules.{Broken}
+use Rattle.nxt_asm_parts.specs.AssembledParts.{parts_of}
+use Rattle.nxt_asm_rules.specs.AsmRules.{Broken}
 use Rattle.nxt_tool.specs.Accepted.{IsRun, PartsCause}
 use Rattle.nxt_tool.specs.Assembling.{HasTextCause, IsTextImage}
 use Rattle.nxt_tool.specs.declared.fault.AcceptFault.{AcceptFault}

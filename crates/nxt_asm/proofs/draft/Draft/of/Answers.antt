@@ -1,6 +1,6 @@
 use Rattle.std.proofs.Common.{sym, ap, ◌∙◌}
 use Rattle.nxt_model.specs.TextProgram.{text_of}
-use Rattle.nxt_parts.specs.Starts.{blocks_starts}
+use Rattle.nxt_asm_parts.specs.Starts.{blocks_starts}
 use Rattle.nxt_asm.proofs.CountedTogether.{all_counted, shapes_seen_in}
 use Rattle.nxt_asm.proofs.draft.Draft.of.Goals as goal
 

@@ -2,7 +2,7 @@ use Rattle.std.proofs.Common.{◌≡◌, ◌∙◌, ◌||◌, Result, Ok, Err, O
 use Rattle.std.specs.Prelude.{is_some}
 use Rattle.std.proofs.lemmas.Bool.{or_from, or_left, or_right}
 use Rattle.nxt_model.specs.Nbc.NbcRules.{is_taken}
-use Rattle.nxt_names.specs.SourceSeen.{source_seen}
+use Rattle.nxt_nbc_names.specs.SourceSeen.{source_seen}
 use Rattle.nxt_nbc.specs.Spaces.{is_among}
 use Rattle.nxt_nbc.proofs.SpaceLoops.{among_position, when_again, when_new}
 use Rattle.nxt_nbc.proofs.spaces.Space.declare.Goals as goal

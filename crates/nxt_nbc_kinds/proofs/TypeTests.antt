@@ -1,0 +1,173 @@
+-- Tests of types by their bases and arrays.
+use Rattle.std.proofs.Common.{◌≡◌, ℕ, zero, suc, ◌-◌, ◌<◌, ◌==◌, nat_lt, Bool, true, false, ◌||◌, List, [], ◌∷◌, map, slice_index_or, ℤ, Option, Some, None, refl, sym, ap, subst, ◌∙◌, arith}
+use Rattle.std.specs.Ordering.{int_eq}
+use Rattle.std.specs.Prelude.{if◌then◌else◌}
+use Rattle.std.proofs.lemmas.Bool.Decides.{nat_tests}
+use Rattle.nxt_types.specs.Arithmetic.{cut}
+use Rattle.nxt_types.specs.Shapes.{Shape, Void, Number, Array, Cluster, Mutex, Members, is_number, is_numbers}
+use Rattle.nxt_types.specs.Calls.{is_text}
+use Rattle.nxt_types.specs.OperandRules.{element_of, is_group, is_list, is_mutex, is_value}
+use Rattle.nxt_types.specs.declared.kind.Kind.TheVariants.{Ubyte}
+use Rattle.nxt_model.specs.Nbc.Types.{Struct, arrays_of, shape_of_struct}
+use Rattle.nxt_model.specs.TextProgram.{base_shape}
+use Rattle.nxt_model.specs.Nbc.NbcRules.{fits_shape}
+use Rattle.nxt_model.specs.declared.nbc.NbcBase.{NbcBase}
+use Rattle.nxt_model.specs.declared.nbc.NbcBase.TheVariants as bases
+use Rattle.nxt_model.specs.declared.nbc.NbcType.{NbcType}
+use Rattle.nxt_nbc_names.specs.Structs.{DeclaredStruct, Types, declared, shapes_of, structs_of}
+use Rattle.nxt_nbc_kinds.specs.OperandsSeen.{shape_among, shape_seen}
+use Rattle.nxt_nbc_kinds.specs.TypeParts.{is_ubyte, single_base, struct_base, struct_position}
+
+-- ---- structs are clusters
+
+at_struct : (P : Shape → Type 0) → P Void → ((ms : Members) → P (Cluster ms)) → (ss : List Struct) (i : ℕ) → P (slice_index_or (map shape_of_struct ss) i Void)
+at_struct P none some [] i = none
+at_struct P none some (s ∷ ss) zero = some _
+at_struct P none some (s ∷ ss) (suc i) = at_struct P none some ss i
+
+-- ---- tests by a base
+
+abbrev is_number_base : Option NbcBase → Bool
+is_number_base (Some (bases.Number k)) = true
+is_number_base _ = false
+
+abbrev is_ubyte_base : Option NbcBase → Bool
+is_ubyte_base (Some (bases.Number Ubyte)) = true
+is_ubyte_base _ = false
+
+abbrev is_mutex_base : Option NbcBase → Bool
+is_mutex_base (Some bases.Mutex) = true
+is_mutex_base _ = false
+
+abbrev fits_base : ℤ → Option NbcBase → Bool
+fits_base z (Some (bases.Number k)) = int_eq (cut k z) z
+fits_base z _ = false
+
+module _ (test : Shape → Bool) (by_base : Option NbcBase → Bool) (none : by_base None ≡ test Void) (array : (n : ℕ) (s : Shape) → by_base None ≡ test (Array n s))
+    (base : (ds : List DeclaredStruct) (b : NbcBase) → by_base (Some b) ≡ test (base_shape (shapes_of ds) b)) where
+  at_arrays : (ds : List DeclaredStruct) (b : NbcBase) (n : ℕ) → by_base (if n == 0 then Some b else None) ≡ test (arrays_of n (base_shape (shapes_of ds) b))
+  at_arrays ds b zero = base ds b
+  at_arrays ds b (suc n) =
+      let more : (suc n == 0) ≡ false = grind (arith, nat_tests) in
+      rw more (array _ (arrays_of n (base_shape (shapes_of ds) b)))
+
+  test_by_base : (ds : List DeclaredStruct) (s : Option NbcType) → by_base (single_base s) ≡ test (shape_among ds s)
+  test_by_base ds None = none
+  test_by_base ds (Some s) = at_arrays ds s.base s.arrays
+
+number_there : (ds : List DeclaredStruct) (b : NbcBase) → is_number_base (Some b) ≡ is_number (base_shape (shapes_of ds) b)
+number_there ds (bases.Number k) = refl
+number_there ds bases.Mutex = refl
+number_there ds (bases.Struct i) = at_struct (λ s. false ≡ is_number s) refl (λ ms. refl) (structs_of ds) i
+
+ubyte_there : (ds : List DeclaredStruct) (b : NbcBase) → is_ubyte_base (Some b) ≡ is_ubyte (base_shape (shapes_of ds) b)
+ubyte_there ds (bases.Number Ubyte) = refl
+ubyte_there ds (bases.Number k) = refl
+ubyte_there ds bases.Mutex = refl
+ubyte_there ds (bases.Struct i) = at_struct (λ s. false ≡ is_ubyte s) refl (λ ms. refl) (structs_of ds) i
+
+mutex_there : (ds : List DeclaredStruct) (b : NbcBase) → is_mutex_base (Some b) ≡ is_mutex (base_shape (shapes_of ds) b)
+mutex_there ds (bases.Number k) = refl
+mutex_there ds bases.Mutex = refl
+mutex_there ds (bases.Struct i) = at_struct (λ s. false ≡ is_mutex s) refl (λ ms. refl) (structs_of ds) i
+
+list_there : (ds : List DeclaredStruct) (b : NbcBase) → false ≡ is_list (base_shape (shapes_of ds) b)
+list_there ds (bases.Number k) = refl
+list_there ds bases.Mutex = refl
+list_there ds (bases.Struct i) = at_struct (λ s. false ≡ is_list s) refl (λ ms. refl) (structs_of ds) i
+
+fits_there : (z : ℤ) (ds : List DeclaredStruct) (b : NbcBase) → fits_base z (Some b) ≡ fits_shape (base_shape (shapes_of ds) b) z
+fits_there z ds (bases.Number k) = refl
+fits_there z ds bases.Mutex = refl
+fits_there z ds (bases.Struct i) = at_struct (λ s. false ≡ fits_shape s z) refl (λ ms. refl) (structs_of ds) i
+
+pub number_by_base : (t : Types) (s : Option NbcType) → is_number (shape_seen t s) ≡ is_number_base (single_base s)
+number_by_base t s = sym (test_by_base is_number is_number_base refl (λ n e. refl) number_there (declared t) s)
+
+pub ubyte_by_base : (t : Types) (s : Option NbcType) → is_ubyte (shape_seen t s) ≡ is_ubyte_base (single_base s)
+ubyte_by_base t s = sym (test_by_base is_ubyte is_ubyte_base refl (λ n e. refl) ubyte_there (declared t) s)
+
+pub mutex_by_base : (t : Types) (s : Option NbcType) → is_mutex (shape_seen t s) ≡ is_mutex_base (single_base s)
+mutex_by_base t s = sym (test_by_base is_mutex is_mutex_base refl (λ n e. refl) mutex_there (declared t) s)
+
+pub fits_by_base : (t : Types) (s : Option NbcType) (z : ℤ) → fits_shape (shape_seen t s) z ≡ fits_base z (single_base s)
+fits_by_base t s z = sym (test_by_base (λ x. fits_shape x z) (fits_base z) refl (λ n e. refl) (fits_there z) (declared t) s)
+
+-- ---- arrays
+
+pub list_by_arrays : (t : Types) (s : NbcType) → is_list (shape_seen t (Some s)) ≡ nat_lt 0 s.arrays
+list_by_arrays t s = by s.arrays
+  where
+    by : (n : ℕ) → is_list (arrays_of n (base_shape (shapes_of (declared t)) s.base)) ≡ nat_lt 0 n
+    by zero = sym (list_there (declared t) s.base)
+    by (suc n) = grind (arith, nat_tests)
+
+no_element : (s : Shape) → false ≡ is_list s → Void ≡ element_of s
+no_element Void e = refl
+no_element (Number k) e = refl
+no_element (Array n s) e = let f : ⊥ = cc in absurd f
+no_element (Cluster ms) e = refl
+no_element Mutex e = refl
+
+pub element_none : (t : Types) (s : NbcType) → nat_lt 0 s.arrays ≡ false → Void ≡ element_of (shape_seen t (Some s))
+element_none t s none = no_element (shape_seen t (Some s)) (sym (list_by_arrays t s ∙ none))
+
+pub element_some : (ss : List Shape) (b : NbcBase) (n : ℕ) → 0 < n → arrays_of (n - 1) (base_shape ss b) ≡ element_of (arrays_of n (base_shape ss b))
+element_some ss b zero some = absurd (omega arith)
+element_some ss b (suc n) some = ap (λ m. arrays_of m (base_shape ss b)) (let same : suc n - 1 ≡ n = omega arith in same)
+
+-- ---- by elements
+
+pub numbers_by_element : (s : Shape) → is_numbers s ≡ is_number (element_of s)
+numbers_by_element Void = refl
+numbers_by_element (Number k) = refl
+numbers_by_element (Array n s) = refl
+numbers_by_element (Cluster ms) = refl
+numbers_by_element Mutex = refl
+
+pub text_by_element : (s : Shape) → is_text s ≡ is_ubyte (element_of s)
+text_by_element Void = refl
+text_by_element (Number k) = refl
+text_by_element (Array n Void) = refl
+text_by_element (Array n (Number Ubyte)) = refl
+text_by_element (Array n (Number _)) = refl
+text_by_element (Array n (Array m s)) = refl
+text_by_element (Array n (Cluster ms)) = refl
+text_by_element (Array n Mutex) = refl
+text_by_element (Cluster ms) = refl
+text_by_element Mutex = refl
+
+pub value_by_tests : (s : Shape) → is_value s ≡ (is_number s || is_list s || is_group s)
+value_by_tests Void = refl
+value_by_tests (Number k) = refl
+value_by_tests (Array n s) = refl
+value_by_tests (Cluster ms) = refl
+value_by_tests Mutex = refl
+
+-- ---- structs by their positions
+
+-- the shape of the struct that it is, if it is one
+abbrev pub IsStructAt : List DeclaredStruct → Option ℕ → Shape → Type 0
+IsStructAt ds None s = is_group s ≡ false
+IsStructAt ds (Some i) s = s ≡ slice_index_or (shapes_of ds) i Void
+
+struct_there : (ds : List DeclaredStruct) (b : NbcBase) → IsStructAt ds (struct_base (Some b)) (base_shape (shapes_of ds) b)
+struct_there ds (bases.Number k) = refl
+struct_there ds bases.Mutex = refl
+struct_there ds (bases.Struct i) = refl
+
+struct_among : (ds : List DeclaredStruct) (b : NbcBase) (n : ℕ) → IsStructAt ds (struct_base (if n == 0 then Some b else None)) (arrays_of n (base_shape (shapes_of ds) b))
+struct_among ds b zero = struct_there ds b
+struct_among ds b (suc n) =
+    let more : (suc n == 0) ≡ false = grind (arith, nat_tests) in
+    rw more refl
+
+pub struct_by_base : (ds : List DeclaredStruct) (s : Option NbcType) → IsStructAt ds (struct_position s) (shape_among ds s)
+struct_by_base ds None = refl
+struct_by_base ds (Some s) = struct_among ds s.base s.arrays
+
+pub no_struct : (ds : List DeclaredStruct) (s : Option NbcType) → None ≡ struct_position s → is_group (shape_among ds s) ≡ false
+no_struct ds s none = subst (λ o. IsStructAt ds o (shape_among ds s)) (sym none) (struct_by_base ds s)
+
+pub struct_shape : (ds : List DeclaredStruct) (s : Option NbcType) (i : ℕ) → Some i ≡ struct_position s → shape_among ds s ≡ slice_index_or (shapes_of ds) i Void
+struct_shape ds s i is = subst (λ o. IsStructAt ds o (shape_among ds s)) (sym is) (struct_by_base ds s)

@@ -1,0 +1,15 @@
+-- Structs that convert to one another.
+use Rattle.std.specs.Prelude.{◌≡◌, ℕ, Bool, false, ◌==◌, List, slice_index_or, Option, Some, None}
+use Rattle.nxt_types.specs.Shapes.{Void, convertible}
+use Rattle.nxt_nbc_names.specs.Structs.{Types, declared, shapes_of}
+
+-- two structs that have kin are of one kin
+abbrev pub are_kin : Option ℕ → Option ℕ → Bool
+are_kin (Some a) (Some b) = a == b
+are_kin _ _ = false
+
+-- structs convert to one another where they are of one kin
+abbrev pub IsKinship : Types → List (Option ℕ) → Type 0
+IsKinship t ks =
+    (i j : ℕ) → convertible (slice_index_or (shapes_of (declared t)) i Void) (slice_index_or (shapes_of (declared t)) j Void)
+    ≡ are_kin (slice_index_or ks i None) (slice_index_or ks j None)

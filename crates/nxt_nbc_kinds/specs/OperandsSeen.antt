@@ -1,0 +1,41 @@
+-- What the program's operands are seen as.
+use Rattle.std.specs.Prelude.{Bool, true, false, List, map, Option, Some, None}
+use Rattle.nxt_types.specs.declared.instr.Op.{Op}
+use Rattle.nxt_types.specs.declared.instr.Op.TheVariants as ops
+use Rattle.nxt_types.specs.Shapes.{Shape, Void}
+use Rattle.nxt_types.specs.OperandRules as rules
+use Rattle.nxt_types.specs.OperandRules.{Sort}
+use Rattle.nxt_model.specs.TextProgram.{shape_by}
+use Rattle.nxt_model.specs.declared.nbc.NbcType.{NbcType}
+use Rattle.nxt_nbc_names.specs.Structs.{DeclaredStruct, Types, declared, shapes_of}
+use Rattle.nxt_nbc_kinds.specs.declared.operand.Operand.{Operand}
+use Rattle.nxt_nbc_kinds.specs.declared.operand.Operand.TheVariants as operands
+
+-- the shape of a type among structs, or the void where there is no type
+abbrev pub shape_among : List DeclaredStruct → Option NbcType → Shape
+shape_among ds None = Void
+shape_among ds (Some s) = shape_by (shapes_of ds) s
+
+abbrev pub shape_seen : Types → Option NbcType → Shape
+shape_seen t s = shape_among (declared t) s
+
+abbrev pub operand_seen : Types → Operand → Sort
+operand_seen t (operands.Part s) = rules.Part (shape_seen t (Some s))
+operand_seen t (operands.Word n) = rules.Word n
+operand_seen t operands.Absent = rules.Absent
+operand_seen t operands.Unknown = rules.Unknown
+
+abbrev pub operands_seen : Types → List Operand → List Sort
+operands_seen t os = map (operand_seen t) os
+
+-- something is asked of all that stands in a type
+abbrev pub asks_all : Op → Bool
+asks_all ops.Index = true
+asks_all ops.Replace = true
+asks_all ops.Arrbuild = true
+asks_all ops.Arrsubset = true
+asks_all ops.Arrinit = true
+asks_all ops.Mov = true
+asks_all ops.Flatten = true
+asks_all ops.Unflatten = true
+asks_all _ = false

@@ -1,0 +1,74 @@
+// What the operands of statements are.
+
+ghost use Rattle.std.specs.Prelude.{◌≡◌};
+ghost use Rattle.nxt_types.specs.OperandRules.{is_absent, shape_of, sort_at, word_of};
+ghost use Rattle.nxt_nbc_names.specs.Structs.{Types};
+ghost use Rattle.nxt_nbc_kinds.specs.OperandsSeen.{operand_seen, operands_seen, shape_seen};
+
+use nxt_model::nbc::NbcType;
+use nxt_types::lists::ListOf;
+
+/// What an operand of a statement is.
+#[derive(Clone, Copy, PartialEq, Eq, Debug)]
+pub enum Operand {
+    /// A part of the variables, or a constant, by its type.
+    Part(NbcType),
+    /// A number that is no name.
+    Word(u16),
+    /// Left out.
+    Absent,
+    /// What no operand of its place may be.
+    Unknown,
+}
+
+/// A list of operands.
+pub type Operands = ListOf<Operand>;
+
+impl Operand {
+    /// The type of a part.
+    pub fn shape(self) -> Option<NbcType>
+        ensures { (t : Types) → shape_seen t result ≡ shape_of (operand_seen t self) }
+    {
+        match self {
+            Operand::Part(shape) => Some(shape),
+            _ => None,
+        }
+    }
+
+    /// The number that is no name; 0 where it is none.
+    pub fn word(self) -> u16
+        ensures { (t : Types) → result ≡ word_of (operand_seen t self) }
+    {
+        match self {
+            Operand::Word(number) => number,
+            _ => 0,
+        }
+    }
+
+    /// Whether it is left out.
+    pub fn is_absent(self) -> bool
+        ensures { (t : Types) → result ≡ is_absent (operand_seen t self) }
+    {
+        matches!(self, Operand::Absent)
+    }
+}
+
+/// The type of operand k, counted from 0, where it is a part.
+pub(crate) fn shape_at(operands: &[Operand], k: usize) -> Option<NbcType>
+    ensures { (t : Types) → shape_seen t result ≡ shape_of (sort_at (operands_seen t operands.now) k) }
+{
+    match operands.get(k) {
+        Some(operand) => operand.shape(),
+        None => None,
+    }
+}
+
+/// Operand k, counted from 0, as a number that is no name; 0 where it is none.
+pub(crate) fn number_at(operands: &[Operand], k: usize) -> u16
+    ensures { (t : Types) → result ≡ word_of (sort_at (operands_seen t operands.now) k) }
+{
+    match operands.get(k) {
+        Some(operand) => operand.word(),
+        None => 0,
+    }
+}

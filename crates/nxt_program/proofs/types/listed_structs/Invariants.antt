@@ -1,8 +1,0 @@
-use Rattle.std.proofs.Common.{◌≡◌, map, take}
-use Rattle.nxt_names.specs.StructsSeen.{structs_seen}
-use Rattle.nxt_program.specs.TypesSeen.{members_of}
-use Rattle.nxt_program.proofs.types.listed_structs.Given as goal
-
--- the structs so far
-abbrev pub invariant-loop-found : goal.invariant-loop-found
-invariant-loop-found l = l.listed ≡ map members_of (structs_seen (take l.found-index l.structs))

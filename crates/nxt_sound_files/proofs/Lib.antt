@@ -1,2 +1,0 @@
--- What holds of the file of every assembled text.
-pub mod Laws
