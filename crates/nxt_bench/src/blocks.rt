@@ -18,7 +18,7 @@ fn resize(heap: &mut Heap, row: u16, bytes: u32) {
     }
 }
 
-// A heap with a table of so many rows, and a list of four bytes in each but row 0.
+// A heap with a table of this many rows, and a list of four bytes in each but row 0.
 fn filled(alloc: Global, rows: u16) -> Result<Heap, Fail>
     requires some { 1 ≤ rows }
     requires few { rows ≤ 2340 }
@@ -32,8 +32,8 @@ fn filled(alloc: Global, rows: u16) -> Result<Heap, Fail>
     Ok(heap)
 }
 
-/// So many times over, a heap gets the lists of the start, the lowest list loses its bytes, and so many blocks have leave
-/// to move. Gives how many moved in all.
+/// Each time a heap gets the lists of the start, the lowest list loses its bytes, and blocks have leave to move. Gives how
+/// many moved in all.
 pub(crate) fn compacted(alloc: Global, rows: u16, times: u32, leave: u16) -> Result<u32, Fail>
     requires some { 1 ≤ rows }
     requires few { rows ≤ 2340 }

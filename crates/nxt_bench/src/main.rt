@@ -1,109 +1,90 @@
-//! Times of `Space` by itself: one call, a million times over, or compactions. The word tells which, by its first letter.
+//! Times of parts by themselves. After `space` a word tells, by its first letter, which call of `Space` is made a million times
+//! over, or what is compacted; after `text` it tells which large text in NBC is made and parsed ten times. With `-` in front the
+//! text is made alone, and with `+` it is assembled each time too.
 #![tactic(auto)]
 
 mod blocks;
+mod space;
+mod texts;
 
-use blocks::{MANY, compacted};
-use nxt_images::{ARRAY, EMPTY, Image, SLONG, layout_of};
-use nxt_space::Space;
 use std::alloc::Global;
 use std::env;
 use std::process::ExitCode;
 use std::rt::Env;
 use std::test::Fail;
+use texts::Work;
 
-/// Two lists of 1,000 numbers of 32 bits, and such a number.
-const VARIABLES: Image<'static> = Image {
-    entries: &[
-        (ARRAY, 0, 0),
-        (SLONG, 0, 0),
-        (ARRAY, 0, 2),
-        (SLONG, 0, 0),
-        (SLONG, 1, 4),
-    ],
-    static_size: 8,
-    defaults: &[1, 0, 2, 0],
-    rows: &[(8, 10, 3), (40, 4, 1000), (4040, 4, 1000)],
-    lists: &[0, 0],
-    zeros: 8000,
-    ..EMPTY
-};
-
-// One list gets the value of the other.
-fn copies(space: &mut Space, times: u32) {
-    for _ in 0..times {
-        if let Some(to) = space.list_spot(0) {
-            if let Some(from) = space.list_spot(2) {
-                if from.kind() == to.kind() {
-                    let _fits = space.copy_list(to, from);
-                }
-            }
-        }
-    }
+/// What is timed.
+#[derive(Clone, Copy, PartialEq, Eq, Debug)]
+enum Part {
+    Space,
+    Text,
 }
 
-// An element is set.
-fn replaced(space: &mut Space, times: u32) {
-    for k in 0..times {
-        if let Some(list) = space.list_spot(0) {
-            space.set_element(list, k % 1000, k);
-        }
-    }
+/// A part, the letter of what is done with it, and what is done with a text.
+#[derive(Clone, Copy)]
+struct Task {
+    part: Part,
+    letter: u8,
+    work: Work,
 }
 
-// An element is read.
-fn indexed(space: &Space, times: u32) -> u32 {
-    let mut sum = 0u32;
-    for k in 0..times {
-        if let Some(list) = space.list_spot(0) {
-            sum = sum.wrapping_add(space.element(list, k % 1000));
-        }
-    }
-    sum
-}
-
-// A number is read and stored.
-fn added(space: &mut Space, times: u32) {
-    for k in 0..times {
-        if let Some(spot) = space.spot(4) {
-            let w = space.word(spot);
-            space.set_word(spot, w.wrapping_add(k));
-        }
-    }
-}
-
-fn work(alloc: Global, which: u8, times: u32) -> Result<u32, Fail> {
-    let layout = layout_of(alloc, &VARIABLES)?;
-    let mut space = Space::new(alloc, &layout)?;
-    match which {
-        b'c' => copies(&mut space, times),
-        b'r' => replaced(&mut space, times),
-        b'a' => added(&mut space, times),
-        b'i' => return Ok(indexed(&space, times)),
-        b'm' => return compacted(alloc, MANY, 1_000, 65_535),
-        b'n' => return compacted(alloc, MANY, 1_000, 0),
-        b'f' => return compacted(alloc, 10, 100_000, 65_535),
-        b'g' => return compacted(alloc, 10, 100_000, 0),
-        _ => {}
-    }
-    Ok(space.footprint())
-}
-
-// The first letter of the last word.
-fn letter(rt: &HostRuntime) -> u8 {
-    let mut which = 0u8;
+// The task that the words tell.
+fn task(rt: &HostRuntime) -> Task {
+    let mut task = Task {
+        part: Part::Space,
+        letter: 0,
+        work: Work::Parse,
+    };
     if let Ok(args) = env::args(rt) {
         for arg in args.skip(1) {
-            if let Some(byte) = arg.into_bytes().get(0) {
-                which = *byte;
-            }
+            task = task_with(task, arg.into_bytes().as_slice());
         }
     }
-    which
+    task
+}
+
+// The same with one word more.
+fn task_with(task: Task, word: &[u8]) -> Task {
+    match word {
+        b"space" => Task {
+            part: Part::Space,
+            ..task
+        },
+        b"text" => Task {
+            part: Part::Text,
+            ..task
+        },
+        [b'-', letter, ..] => Task {
+            letter: *letter,
+            work: Work::Nothing,
+            ..task
+        },
+        [b'+', letter, ..] => Task {
+            letter: *letter,
+            work: Work::Assemble,
+            ..task
+        },
+        [letter, ..] => Task {
+            letter: *letter,
+            ..task
+        },
+        [] => task,
+    }
+}
+
+// Whether a text is sound that isn't to be.
+fn tell_texts(alloc: Global, letter: u8, work: Work) -> Result<bool, Fail> {
+    let text = texts::text_of(alloc, letter)?;
+    let sound = texts::is_sound_each_time(alloc, &text, work);
+    Ok(sound && letter == b'c')
 }
 
 fn main(rt: HostRuntime) -> Result<ExitCode, Fail> {
-    let which = letter(&rt);
-    let sum = work(rt.alloc(), which, 1_000_000)?;
-    Ok(ExitCode::from(u8::from(sum == 1)))
+    let task = task(&rt);
+    let odd = match task.part {
+        Part::Space => space::work(rt.alloc(), task.letter, 1_000_000)? == 1,
+        Part::Text => tell_texts(rt.alloc(), task.letter, task.work)?,
+    };
+    Ok(ExitCode::from(u8::from(odd)))
 }

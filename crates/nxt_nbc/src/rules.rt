@@ -14,7 +14,7 @@ ghost use Rattle.nxt_nbc.specs.Checked.{Refuses};
 use crate::spaces::declarations_of;
 use crate::syntax::bad_line;
 use crate::unknown::unknown_line;
-use nxt_nbc_kinds::{Kinship, range_line, wrong_kind};
+use nxt_nbc_kinds::{Conversions, range_line, wrong_kind};
 use nxt_nbc_lines::{Formed, NbcFault};
 use nxt_nbc_names::{Block, Source};
 use std::alloc::Global;
@@ -91,8 +91,8 @@ fn check_operands<'a>(
     ensures kept { OnOk result (Keeps (formed_seen formed.now) 45) }
     ensures refused { IfErr result (Refuses (formed_seen formed.now)) }
 {
-    let kinship = Kinship::of(alloc, &source.structs)?;
-    if let Some((line, operand)) = wrong_kind(alloc, formed, source, &kinship)? {
+    let conversions = Conversions::of(alloc, &source.structs)?;
+    if let Some((line, operand)) = wrong_kind(alloc, formed, source, &conversions)? {
         return Err(NbcFault::Kind(line, operand));
     }
     match range_line(alloc, formed, source)? {

@@ -2,10 +2,10 @@
 use Rattle.std.proofs.Common.{◌≡◌, ℕ, Bool, cond, not, ◌+◌, ◌&&◌, ◌||◌, List, [], ◌∷◌, map, refl, ap₂}
 use Rattle.std.specs.Cmp.Lexicographic.{pointwise}
 use Rattle.std.specs.List.{list_any, position_or_len}
-use Rattle.nxt_nbc_kinds.specs.contracts.kin.TypeKindPartialEq.TheImpl.{ghosts}
-use Rattle.nxt_nbc_kinds.specs.declared.kin.BaseKind.{BaseKind}
-use Rattle.nxt_nbc_kinds.specs.declared.kin.BaseKind.TheVariants.{Number, Struct}
-use Rattle.nxt_nbc_kinds.specs.declared.kin.TypeKind.{TypeKind}
+use Rattle.nxt_nbc_kinds.specs.contracts.conversions.TypeKindPartialEq.TheImpl.{ghosts}
+use Rattle.nxt_nbc_kinds.specs.declared.conversions.BaseKind.{BaseKind}
+use Rattle.nxt_nbc_kinds.specs.declared.conversions.BaseKind.TheVariants.{Number, Struct}
+use Rattle.nxt_nbc_kinds.specs.declared.conversions.TypeKind.{TypeKind}
 use Rattle.nxt_nbc_kinds.specs.Kinds.{same_kind, same_members}
 
 -- ---- kinds

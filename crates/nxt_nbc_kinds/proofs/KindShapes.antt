@@ -12,10 +12,10 @@ use Rattle.nxt_model.specs.declared.nbc.NbcBase.{NbcBase}
 use Rattle.nxt_model.specs.declared.nbc.NbcBase.TheVariants as bases
 use Rattle.nxt_model.specs.declared.nbc.NbcType.{NbcType}
 use Rattle.nxt_nbc_kinds.specs.Kinds.{base_kind, in_front, kinds_of, same_base, same_kind, same_members, type_kind}
-use Rattle.nxt_nbc_kinds.specs.declared.kin.BaseKind.{BaseKind}
-use Rattle.nxt_nbc_kinds.specs.declared.kin.BaseKind.TheVariants as kinds
-use Rattle.nxt_nbc_kinds.specs.declared.kin.TypeKind.{TypeKind}
-use Rattle.nxt_nbc_kinds.proofs.Conversions.{arrays_convert, arrays_never, as_many_arrays, mutex_never}
+use Rattle.nxt_nbc_kinds.specs.declared.conversions.BaseKind.{BaseKind}
+use Rattle.nxt_nbc_kinds.specs.declared.conversions.BaseKind.TheVariants as kinds
+use Rattle.nxt_nbc_kinds.specs.declared.conversions.TypeKind.{TypeKind}
+use Rattle.nxt_nbc_kinds.proofs.ConvertingShapes.{arrays_convert, arrays_never, as_many_arrays, mutex_never}
 
 -- ---- shapes for kinds, where those of structs have these
 

@@ -3,7 +3,7 @@ use Rattle.std.proofs.Common.{◌≡◌, ℕ, zero, suc, ◌+◌, ◌<◌, ◌++
 use Rattle.std.proofs.lemmas.List.{map_more}
 use Rattle.nxt_model.specs.declared.nbc.NbcType.{NbcType}
 use Rattle.nxt_nbc_kinds.specs.Kinds.{in_front, kinds_of, type_kind}
-use Rattle.nxt_nbc_kinds.specs.declared.kin.TypeKind.{TypeKind}
+use Rattle.nxt_nbc_kinds.specs.declared.conversions.TypeKind.{TypeKind}
 
 abbrev joined : Option (List TypeKind) → Option (List TypeKind) → Option (List TypeKind)
 joined (Some ks) (Some ls) = Some (ks ++ ls)

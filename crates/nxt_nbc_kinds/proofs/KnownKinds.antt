@@ -13,10 +13,10 @@ use Rattle.nxt_nbc_names.specs.MembersSeen.{member_seen}
 use Rattle.nxt_nbc_names.specs.StructsSeen.{struct_seen, structs_seen}
 use Rattle.nxt_nbc_names.specs.declared.members.Member.{Member as ProgramMember}
 use Rattle.nxt_nbc_names.specs.declared.structs.Struct.{Struct as ProgramStruct}
-use Rattle.nxt_nbc_kinds.specs.Kin.{IsKinship, are_kin}
+use Rattle.nxt_nbc_kinds.specs.ConvertingStructs.{AreConversions, are_of_a_kind}
 use Rattle.nxt_nbc_kinds.specs.Kinds.{kinds_of, known_with, number_of, same_members}
-use Rattle.nxt_nbc_kinds.specs.declared.kin.TypeKind.{TypeKind}
-use Rattle.nxt_nbc_kinds.proofs.Conversions.{alike, both_ways, through, void_never}
+use Rattle.nxt_nbc_kinds.specs.declared.conversions.TypeKind.{TypeKind}
+use Rattle.nxt_nbc_kinds.proofs.ConvertingShapes.{alike, both_ways, through, void_never}
 use Rattle.nxt_nbc_kinds.proofs.KindShapes.{AreApart, AreOfTypes, AreWithin, IsOfStruct, members_apart, struct_like, struct_like_more, type_like, types_of_kinds, within_more}
 use Rattle.nxt_nbc_kinds.proofs.StructsBehind.{shapes_push}
 
@@ -239,14 +239,14 @@ struct_known ds d ks known o e all =
 
 -- ---- which structs convert
 
-pub are_kinship : (t : Types) (ks : List (Option ℕ)) (known : List (List TypeKind)) → AreKnown (shapes_of (declared t)) ks known → IsKinship t ks
+pub are_kinship : (t : Types) (ks : List (Option ℕ)) (known : List (List TypeKind)) → AreKnown (shapes_of (declared t)) ks known → AreConversions t ks
 are_kinship t ks known all i j = by (slice_index_or ks i None) (slice_index_or ks j None) (all.kinds i) (all.kinds j)
   where
     ss : List Shape
     ss = shapes_of (declared t)
 
     by : (a b : Option ℕ) → IsOfStruct all.like (slice_index_or ss i Void) a → IsOfStruct all.like (slice_index_or ss j Void) b
-        → convertible (slice_index_or ss i Void) (slice_index_or ss j Void) ≡ are_kin a b
+        → convertible (slice_index_or ss i Void) (slice_index_or ss j Void) ≡ are_of_a_kind a b
     by None b never other = never (slice_index_or ss j Void)
     by (Some a) None one never = both_ways (slice_index_or ss i Void) (slice_index_or ss j Void) ∙ never (slice_index_or ss i Void)
     by (Some a) (Some b) one other =

@@ -1,7 +1,7 @@
 -- What holds of the operands of every text.
 pub mod Laws
 -- Shapes that convert to one another convert to the same shapes.
-mod Conversions
+mod ConvertingShapes
 -- Shapes for kinds, and types of these kinds.
 mod KindShapes
 -- Which kinds of structs are known.

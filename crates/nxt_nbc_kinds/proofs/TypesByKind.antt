@@ -9,11 +9,11 @@ use Rattle.nxt_model.specs.declared.nbc.NbcBase.{NbcBase}
 use Rattle.nxt_model.specs.declared.nbc.NbcBase.TheVariants as bases
 use Rattle.nxt_model.specs.declared.nbc.NbcType.{NbcType}
 use Rattle.nxt_nbc_names.specs.Structs.{Types, declared, shape_in, shapes_of, structs_in}
-use Rattle.nxt_nbc_kinds.specs.Kin.{IsKinship, are_kin}
+use Rattle.nxt_nbc_kinds.specs.ConvertingStructs.{AreConversions, are_of_a_kind}
 use Rattle.nxt_nbc_kinds.specs.Kinds.{are_of_one_kind, base_kind, same_base, type_kind}
-use Rattle.nxt_nbc_kinds.specs.declared.kin.BaseKind.{BaseKind}
-use Rattle.nxt_nbc_kinds.specs.declared.kin.BaseKind.TheVariants as kinds
-use Rattle.nxt_nbc_kinds.proofs.Conversions.{as_many_arrays, both_ways, mutex_never}
+use Rattle.nxt_nbc_kinds.specs.declared.conversions.BaseKind.{BaseKind}
+use Rattle.nxt_nbc_kinds.specs.declared.conversions.BaseKind.TheVariants as kinds
+use Rattle.nxt_nbc_kinds.proofs.ConvertingShapes.{as_many_arrays, both_ways, mutex_never}
 
 -- ---- structs are clusters
 
@@ -45,10 +45,10 @@ struct_apart : (o : Option ℕ) → false ≡ are_of_one_base (option_map kinds.
 struct_apart None = refl
 struct_apart (Some a) = refl
 
-kin_by_base : (o p : Option ℕ) → are_kin o p ≡ are_of_one_base (option_map kinds.Struct o) (option_map kinds.Struct p)
-kin_by_base None p = refl
-kin_by_base (Some a) None = refl
-kin_by_base (Some a) (Some b) = refl
+kind_by_base : (o p : Option ℕ) → are_of_a_kind o p ≡ are_of_one_base (option_map kinds.Struct o) (option_map kinds.Struct p)
+kind_by_base None p = refl
+kind_by_base (Some a) None = refl
+kind_by_base (Some a) (Some b) = refl
 
 -- types of these bases, so often made arrays
 types_by_base : (o p : Option BaseKind) (n m : ℕ)
@@ -57,7 +57,7 @@ types_by_base None p n m = refl
 types_by_base (Some a) None n m = refl
 types_by_base (Some a) (Some b) n m = refl
 
-module _ (t : Types) (ks : List (Option ℕ)) (kin : IsKinship t ks) where
+module _ (t : Types) (ks : List (Option ℕ)) (all : AreConversions t ks) where
   abbrev ss : List Shape
   ss = shapes_of (declared t)
 
@@ -73,7 +73,7 @@ module _ (t : Types) (ks : List (Option ℕ)) (kin : IsKinship t ks) where
   bases_convert (bases.Number k) (bases.Struct j) = no_number k (structs_in t) j ∙ number_apart (slice_index_or ks j None)
   bases_convert (bases.Struct i) (bases.Number l) =
       both_ways (slice_index_or ss i Void) (Number l) ∙ no_number l (structs_in t) i ∙ struct_apart (slice_index_or ks i None)
-  bases_convert (bases.Struct i) (bases.Struct j) = kin i j ∙ kin_by_base (slice_index_or ks i None) (slice_index_or ks j None)
+  bases_convert (bases.Struct i) (bases.Struct j) = all i j ∙ kind_by_base (slice_index_or ks i None) (slice_index_or ks j None)
 
   pub types_convert : (to from : NbcType) → are_of_one_kind (type_kind ks to) (type_kind ks from) ≡ convertible (shape_in t to) (shape_in t from)
   types_convert to from =

@@ -4,9 +4,9 @@ use Rattle.std.specs.List.{list_any, position_or_len}
 use Rattle.nxt_model.specs.declared.nbc.NbcBase.{NbcBase}
 use Rattle.nxt_model.specs.declared.nbc.NbcBase.TheVariants as bases
 use Rattle.nxt_model.specs.declared.nbc.NbcType.{NbcType}
-use Rattle.nxt_nbc_kinds.specs.declared.kin.BaseKind.{BaseKind}
-use Rattle.nxt_nbc_kinds.specs.declared.kin.BaseKind.TheVariants as kinds
-use Rattle.nxt_nbc_kinds.specs.declared.kin.TypeKind.{TypeKind}
+use Rattle.nxt_nbc_kinds.specs.declared.conversions.BaseKind.{BaseKind}
+use Rattle.nxt_nbc_kinds.specs.declared.conversions.BaseKind.TheVariants as kinds
+use Rattle.nxt_nbc_kinds.specs.declared.conversions.TypeKind.{TypeKind}
 
 -- ---- of types, where structs are of these kinds
 

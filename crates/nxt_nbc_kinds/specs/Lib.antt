@@ -1,5 +1,5 @@
 -- Structs that convert to one another.
-pub mod Kin
+pub mod ConvertingStructs
 -- The kinds of types that convert.
 pub mod Kinds
 -- What the program's operands are seen as.

@@ -4,10 +4,10 @@ ghost use Rattle.std.specs.Prelude.{◌≡◌, ◌<◌, length, slice_index_or, 
 ghost use Rattle.nxt_types.specs.Opcodes.{arity, takes};
 ghost use Rattle.nxt_types.specs.OperandRules.{arithmetic as arithmetic_tests, asked, comparison as comparison_tests, has_kind as has_kind_of, is_allowed as is_allowed_in, is_of_class as is_of_class_of, shape_of, sort_at, word_of};
 ghost use Rattle.nxt_nbc_names.specs.Structs.{Types};
-ghost use Rattle.nxt_nbc_kinds.specs.Kin.{IsKinship};
+ghost use Rattle.nxt_nbc_kinds.specs.ConvertingStructs.{AreConversions};
 ghost use Rattle.nxt_nbc_kinds.specs.OperandsSeen.{asks_all, operand_seen, operands_seen, shape_seen};
 
-use crate::kin::Kinship;
+use crate::conversions::Conversions;
 use crate::operand::{Operand, number_at, shape_at};
 use crate::types::{
     are_alike, converts, element, goes_into, has_list, is_cluster, is_list, is_mutex, is_number,
@@ -23,17 +23,18 @@ use nxt_types::words::{LAST_INPUT, LAST_OUTPUT};
 /// Whether operand k, counted from 0, is of its class, and fits the operands before it.
 pub fn has_kind(
     structs: &StructTable<'_>,
-    kinship: &Kinship,
+    conversions: &Conversions,
     op: Op,
     operands: &[Operand],
     k: usize,
 ) -> bool
-    requires kinship { IsKinship structs.now kinship.now }
+    requires conversions { AreConversions structs.now conversions.now }
     requires within { k < length operands.now }
     requires takes { takes (arity op) (length operands.now) ≡ true }
     ensures { result ≡ has_kind_of 1 op (operands_seen structs.now operands.now) k }
 {
-    is_of_class(structs, op.class(k), operands[k]) && fits_others(structs, kinship, op, operands, k)
+    is_of_class(structs, op.class(k), operands[k])
+        && fits_others(structs, conversions, op, operands, k)
 }
 
 /// Whether an operand is of a class.
@@ -56,12 +57,12 @@ pub fn is_of_class(structs: &StructTable<'_>, class: Class, operand: Operand) ->
 /// Whether operand k, counted from 0, fits the operands before it.
 pub fn fits_others(
     structs: &StructTable<'_>,
-    kinship: &Kinship,
+    conversions: &Conversions,
     op: Op,
     operands: &[Operand],
     k: usize,
 ) -> bool
-    requires kinship { IsKinship structs.now kinship.now }
+    requires conversions { AreConversions structs.now conversions.now }
     requires within { k < length operands.now }
     ensures { let os = operands_seen structs.now operands.now in
         result ≡ slice_index_or (asked op (λ i. shape_of (sort_at os i)) (λ i. word_of (sort_at os i)) os) k true }
@@ -70,17 +71,17 @@ pub fn fits_others(
     let second = shape_at(operands, 1);
     let own = shape_at(operands, k);
     match op {
-        Op::Index => k != 1 || converts(kinship, first, element(second)),
+        Op::Index => k != 1 || converts(conversions, first, element(second)),
         Op::Replace => match k {
-            1 => converts(kinship, first, second),
-            3 => goes_into(kinship, second, own),
+            1 => converts(conversions, first, second),
+            3 => goes_into(conversions, second, own),
             _ => true,
         },
-        Op::Arrbuild => k == 0 || goes_into(kinship, first, own),
-        Op::Arrsubset | Op::Mov => k != 1 || converts(kinship, first, second),
-        Op::Arrinit => k != 1 || converts(kinship, element(first), second),
+        Op::Arrbuild => k == 0 || goes_into(conversions, first, own),
+        Op::Arrsubset | Op::Mov => k != 1 || converts(conversions, first, second),
+        Op::Arrinit => k != 1 || converts(conversions, element(first), second),
         Op::Flatten => k != 1 || !has_list(structs, second),
-        Op::Unflatten => k != 3 || (!has_list(structs, own) && converts(kinship, first, own)),
+        Op::Unflatten => k != 3 || (!has_list(structs, own) && converts(conversions, first, own)),
         _ => fits_at_sight(structs, op, operands, k),
     }
 }

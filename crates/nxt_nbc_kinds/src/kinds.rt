@@ -12,10 +12,10 @@ ghost use Rattle.nxt_nbc_lines.specs.Whole.{AreLines, IsWhole, most_in_text};
 ghost use Rattle.nxt_nbc_names.specs.DenotedSeen.{denoted_seen};
 ghost use Rattle.nxt_nbc_names.specs.SourceSeen.{source_seen};
 ghost use Rattle.nxt_nbc_names.specs.Structs.{Types};
-ghost use Rattle.nxt_nbc_kinds.specs.Kin.{IsKinship};
+ghost use Rattle.nxt_nbc_kinds.specs.ConvertingStructs.{AreConversions};
 
 use crate::between::has_kind;
-use crate::kin::Kinship;
+use crate::conversions::Conversions;
 use crate::sorts::operands_of;
 use nxt_nbc_lines::{Form, Formed, Term, TypeName};
 use nxt_nbc_names::{Denoted, Source};
@@ -29,15 +29,15 @@ pub fn wrong_kind<'a>(
     alloc: Global,
     formed: &Formed<'a>,
     source: &Source<'_, 'a>,
-    kinship: &Kinship,
+    conversions: &Conversions,
 ) -> Result<Option<(u32, u32)>, NoMemory>
     requires of { source_seen source.now ≡ source_of (formed_seen formed.now).forms }
     requires lines { AreLines (formed_seen formed.now).forms }
-    requires kinship { IsKinship source.now.structs kinship.now }
+    requires conversions { AreConversions source.now.structs conversions.now }
     ensures { IfOk result (IsLeastPair (λ l k. tells (formed_seen formed.now) (WrongKind l k))) }
 {
     for line in formed.forms.as_slice() {
-        let wrong = wrong_operand(alloc, source, kinship, line.line, &line.form)?;
+        let wrong = wrong_operand(alloc, source, conversions, line.line, &line.form)?;
         if let Some(operand) = wrong {
             return Ok(Some((line.line, operand)));
         }
@@ -49,17 +49,17 @@ pub fn wrong_kind<'a>(
 fn wrong_operand<'a>(
     alloc: Global,
     source: &Source<'_, 'a>,
-    kinship: &Kinship,
+    conversions: &Conversions,
     line: u32,
     form: &Form<'a>,
 ) -> Result<Option<u32>, NoMemory>
     requires whole { IsWhole (form_seen form.now) }
-    requires kinship { IsKinship source.now.structs kinship.now }
+    requires conversions { AreConversions source.now.structs conversions.now }
     ensures { IfOk result (IsLeast (λ k. is_wrong_kind (source_seen source.now) line k (form_seen form.now))) }
 {
     match form {
         Form::Do(_, op, _, terms) => {
-            wrong_term(alloc, source, kinship, line, *op, terms.as_slice())
+            wrong_term(alloc, source, conversions, line, *op, terms.as_slice())
         }
         Form::Precedes(terms) => wrong_thread(alloc, source, line, terms.as_slice()),
         Form::Follows(terms) => wrong_thread(alloc, source, line, terms.as_slice()),
@@ -90,14 +90,14 @@ fn first_if(wrong: bool) -> Option<u32>
 fn wrong_term<'a>(
     alloc: Global,
     source: &Source<'_, 'a>,
-    kinship: &Kinship,
+    conversions: &Conversions,
     line: u32,
     op: Op,
     terms: &[Term<'a>],
 ) -> Result<Option<u32>, NoMemory>
     requires takes { takes (arity op) (length terms.now) ≡ true }
     requires few { length terms.now ≤ most_in_text }
-    requires kinship { IsKinship source.now.structs kinship.now }
+    requires conversions { AreConversions source.now.structs conversions.now }
     ensures { (label : Option (List ℕ)) (cmp : Comparison) →
         IfOk result (IsLeast (λ k. is_wrong_kind (source_seen source.now) line k (Do label op cmp (terms_seen terms.now)))) }
 {
@@ -105,7 +105,7 @@ fn wrong_term<'a>(
     let operands = all.as_slice();
     for (k, term) in terms.iter().enumerate() {
         if !has_class(alloc, source, line, op.class(k), term)?
-            || !has_kind(&source.structs, kinship, op, operands, k)
+            || !has_kind(&source.structs, conversions, op, operands, k)
         {
             return Ok(Some(k as u32 + 1));
         }

@@ -2,7 +2,7 @@
 #![tactic(auto)]
 
 mod between;
-mod kin;
+mod conversions;
 mod kinds;
 mod operand;
 mod ranges;
@@ -10,7 +10,7 @@ mod sorts;
 mod types;
 
 pub use between::{fits_others, has_kind, is_allowed, is_of_class};
-pub use kin::Kinship;
+pub use conversions::Conversions;
 pub use kinds::wrong_kind;
 pub use operand::{Operand, Operands};
 pub use ranges::range_line;

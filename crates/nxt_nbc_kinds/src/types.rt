@@ -7,11 +7,11 @@ ghost use Rattle.nxt_types.specs.OperandRules.{are_alike as are_alike_shapes, el
 ghost use Rattle.nxt_model.specs.TextProgram.{shape_by};
 ghost use Rattle.nxt_nbc_names.specs.Structs.{DeclaredStruct, Types, shapes_of};
 ghost use Rattle.nxt_nbc_names.specs.StructsSeen.{structs_seen};
-ghost use Rattle.nxt_nbc_kinds.specs.Kin.{IsKinship};
+ghost use Rattle.nxt_nbc_kinds.specs.ConvertingStructs.{AreConversions};
 ghost use Rattle.nxt_nbc_kinds.specs.OperandsSeen.{shape_among, shape_seen};
 ghost use Rattle.nxt_nbc_kinds.specs.TypeParts.{is_ubyte as is_ubyte_shape, single_base as single_base_of, struct_position as struct_position_of};
 
-use crate::kin::Kinship;
+use crate::conversions::Conversions;
 use nxt_model::nbc::{NbcBase, NbcType};
 use nxt_nbc_names::{Member, Struct, StructTable};
 use nxt_types::calls::{Call, Field};
@@ -136,20 +136,20 @@ pub fn has_list(structs: &StructTable<'_>, shape: Option<NbcType>) -> bool
 }
 
 /// Whether a value of the one can be stored in the other.
-pub fn converts(kinship: &Kinship, to: Option<NbcType>, from: Option<NbcType>) -> bool
-    ensures { (t : Types) → IsKinship t kinship.now → result ≡ convertible (shape_seen t to) (shape_seen t from) }
+pub fn converts(conversions: &Conversions, to: Option<NbcType>, from: Option<NbcType>) -> bool
+    ensures { (t : Types) → AreConversions t conversions.now → result ≡ convertible (shape_seen t to) (shape_seen t from) }
 {
     match (to, from) {
-        (Some(to), Some(from)) => kinship.converts(to, from),
+        (Some(to), Some(from)) => conversions.converts(to, from),
         _ => false,
     }
 }
 
 /// Whether a value is an element for a list, or a list that converts to it.
-pub fn goes_into(kinship: &Kinship, list: Option<NbcType>, from: Option<NbcType>) -> bool
-    ensures { (t : Types) → IsKinship t kinship.now → result ≡ goes_into_list (shape_seen t list) (shape_seen t from) }
+pub fn goes_into(conversions: &Conversions, list: Option<NbcType>, from: Option<NbcType>) -> bool
+    ensures { (t : Types) → AreConversions t conversions.now → result ≡ goes_into_list (shape_seen t list) (shape_seen t from) }
 {
-    converts(kinship, element(list), from) || converts(kinship, list, from)
+    converts(conversions, element(list), from) || converts(conversions, list, from)
 }
 
 // ---- clusters

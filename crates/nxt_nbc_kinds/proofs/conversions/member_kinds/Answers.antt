@@ -1,7 +1,7 @@
 use Rattle.std.proofs.Common.{Some, sym, ap, ◌∙◌}
 use Rattle.nxt_nbc_names.specs.declared.members.Member.{Member}
 use Rattle.nxt_nbc_kinds.proofs.KindsInTurn.{kinds_more, kinds_none}
-use Rattle.nxt_nbc_kinds.proofs.kin.member_kinds.Goals as goal
+use Rattle.nxt_nbc_kinds.proofs.conversions.member_kinds.Goals as goal
 
 pub returns-in-None : goal.returns-in-None
 returns-in-None c =

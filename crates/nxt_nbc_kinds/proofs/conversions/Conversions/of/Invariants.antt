@@ -2,7 +2,7 @@ use Rattle.std.proofs.Common.{take}
 use Rattle.nxt_nbc_names.specs.Structs.{shapes_of}
 use Rattle.nxt_nbc_names.specs.StructsSeen.{structs_seen}
 use Rattle.nxt_nbc_kinds.proofs.KnownKinds.{AreKnown}
-use Rattle.nxt_nbc_kinds.proofs.kin.Kinship.of.Given as goal
+use Rattle.nxt_nbc_kinds.proofs.conversions.Conversions.of.Given as goal
 
 abbrev pub invariant-loop-item : goal.invariant-loop-item
 invariant-loop-item l = AreKnown (shapes_of (structs_seen (take l.item-index l.declared))) l.kinds l.known

@@ -3,7 +3,7 @@
 ghost use Rattle.std.specs.Prelude.{◌≡◌, [], IfOk, OnOk, Some, map, option_map};
 ghost use Rattle.nxt_nbc_names.specs.Structs.{Types, shape_in};
 ghost use Rattle.nxt_types.specs.Shapes.{convertible};
-ghost use Rattle.nxt_nbc_kinds.specs.Kin.{IsKinship};
+ghost use Rattle.nxt_nbc_kinds.specs.ConvertingStructs.{AreConversions};
 ghost use Rattle.nxt_nbc_kinds.specs.Kinds.{are_of_one_kind, base_kind, kinds_of, known_with, number_of, type_kind};
 
 use indexmap::IndexSet;
@@ -88,7 +88,7 @@ struct StructKinds {
 
 impl Model for StructKinds {
     ghost use Rattle.std.specs.Prelude.{List, map};
-    ghost use Rattle.nxt_nbc_kinds.specs.declared.kin.TypeKind.{TypeKind};
+    ghost use Rattle.nxt_nbc_kinds.specs.declared.conversions.TypeKind.{TypeKind};
 
     ghost Value = { List (List TypeKind) };
 
@@ -133,11 +133,11 @@ impl StructKinds {
 
 /// Which structs of a text convert to one another: each is held with the number of its kind, if it converts.
 #[derive(Drop)]
-pub struct Kinship {
+pub struct Conversions {
     kinds: ListOf<Option<usize>>,
 }
 
-impl Model for Kinship {
+impl Model for Conversions {
     ghost use Rattle.std.specs.Prelude.{ℕ, List, Option};
 
     ghost Value = { List (Option ℕ) };
@@ -145,10 +145,10 @@ impl Model for Kinship {
     ghost view = { λ k. k.kinds };
 }
 
-impl Kinship {
+impl Conversions {
     /// That of a text's structs.
-    pub fn of(alloc: Global, structs: &StructTable<'_>) -> Result<Kinship, NoMemory>
-        ensures { IfOk result (IsKinship structs.now) }
+    pub fn of(alloc: Global, structs: &StructTable<'_>) -> Result<Conversions, NoMemory>
+        ensures { IfOk result (AreConversions structs.now) }
     {
         let declared = structs.as_slice();
         let mut known = StructKinds::new(alloc);
@@ -157,12 +157,12 @@ impl Kinship {
             let kind = known.kind(alloc, kinds.as_slice(), item.members.as_slice())?;
             kinds.push(kind)?;
         }
-        Ok(Kinship { kinds })
+        Ok(Conversions { kinds })
     }
 
     /// Whether a value of the one type can be stored in the other.
     pub fn converts(&self, to: NbcType, from: NbcType) -> bool
-        ensures { (t : Types) → IsKinship t self.now → result ≡ convertible (shape_in t to) (shape_in t from) }
+        ensures { (t : Types) → AreConversions t self.now → result ≡ convertible (shape_in t to) (shape_in t from) }
     {
         let kinds = self.kinds.as_slice();
         are_of_one_kind(type_kind(kinds, to), type_kind(kinds, from))

@@ -1,10 +1,10 @@
 use Rattle.std.proofs.Common.{◌≡◌, List, [], ◌∷◌, ◌++◌, Bool, true, false, if◌then◌else◌, map, Some, Vec, Global, refl, ap, ◌∙◌}
 use Rattle.std.specs.List.{list_any, position_or_len}
 use Rattle.std.proofs.lemmas.List.{map_push}
-use Rattle.nxt_nbc_kinds.specs.declared.kin.TypeKind.{TypeKind}
+use Rattle.nxt_nbc_kinds.specs.declared.conversions.TypeKind.{TypeKind}
 use Rattle.nxt_nbc_kinds.specs.Kinds.{same_members}
 use Rattle.nxt_nbc_kinds.proofs.DerivedTests.{any_seen, members_tested, position_seen}
-use Rattle.nxt_nbc_kinds.proofs.kin.StructKinds.number.Goals as goal
+use Rattle.nxt_nbc_kinds.proofs.conversions.StructKinds.number.Goals as goal
 
 abbrev items : Vec TypeKind Global → List TypeKind
 items v = v.items

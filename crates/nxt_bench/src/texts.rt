@@ -1,17 +1,12 @@
-//! Times of large texts in NBC: one is made, and parsed ten times. The word tells which, by its first letter; with `-` in
-//! front it is made alone, and with `+` it is assembled each time too.
-#![tactic(auto)]
+// Large texts in NBC, parsed and assembled.
 
 use nxt_asm::assemble;
 use nxt_nbc::parse;
 use nxt_nbc_lines::LONGEST_TEXT;
 use std::alloc::Global;
-use std::env;
-use std::process::ExitCode;
-use std::rt::Env;
 use std::test::Fail;
 
-// A text, so many copies of another, and a third.
+// A text, copies of another, and a third.
 fn repeated(
     alloc: Global,
     first: &str,
@@ -28,7 +23,7 @@ fn repeated(
     Ok(text)
 }
 
-// So many lines, each by its number, between two others.
+// Lines, each by its number, between two others.
 fn lines(
     alloc: Global,
     first: &str,
@@ -73,7 +68,8 @@ const TEN_TEXTS: &str =
 
 const DATA: &str = "dseg segment\nn long\ne byte[]\ndseg ends\nthread main\n";
 
-fn text_of(alloc: Global, which: u8) -> Result<String, Fail> {
+/// The text of a letter.
+pub(crate) fn text_of(alloc: Global, which: u8) -> Result<String, Fail> {
     match which {
         b'a' => repeated(alloc, DATA, 21_000, "add n, n, 1\n", "endt\n"),
         b'c' => repeated(alloc, "/*", 262_142, "a", ""),
@@ -123,7 +119,7 @@ fn text_of(alloc: Global, which: u8) -> Result<String, Fail> {
 
 /// What is done with a text.
 #[derive(Clone, Copy, PartialEq, Eq, Debug)]
-enum Work {
+pub(crate) enum Work {
     Nothing,
     Parse,
     Assemble,
@@ -138,35 +134,12 @@ fn is_sound(alloc: Global, text: &[u8], work: Work) -> bool {
     }
 }
 
-// The same of a text that is looked at so often.
-fn is_sound_each_time(alloc: Global, text: &String, work: Work) -> bool {
+/// Whether a text has no fault, looked at ten times.
+pub(crate) fn is_sound_each_time(alloc: Global, text: &String, work: Work) -> bool {
     let mut sound = false;
     let times = if work == Work::Nothing { 0 } else { 10 };
     for _ in 0..times {
         sound = is_sound(alloc, text.as_bytes(), work);
     }
     sound
-}
-
-// The letter of the last word, and what is to be done.
-fn letter(rt: &HostRuntime) -> (u8, Work) {
-    let mut which = (0u8, Work::Parse);
-    if let Ok(args) = env::args(rt) {
-        for arg in args.skip(1) {
-            match arg.into_bytes().as_slice() {
-                [b'-', byte, ..] => which = (*byte, Work::Nothing),
-                [b'+', byte, ..] => which = (*byte, Work::Assemble),
-                [byte, ..] => which = (*byte, Work::Parse),
-                [] => {}
-            }
-        }
-    }
-    which
-}
-
-fn main(rt: HostRuntime) -> Result<ExitCode, Fail> {
-    let (which, work) = letter(&rt);
-    let text = text_of(rt.alloc(), which)?;
-    let sound = is_sound_each_time(rt.alloc(), &text, work);
-    Ok(ExitCode::from(u8::from(sound && which == b'c')))
 }

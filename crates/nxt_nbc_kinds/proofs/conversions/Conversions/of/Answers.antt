@@ -3,7 +3,7 @@ use Rattle.std.proofs.lemmas.List.{take_all}
 use Rattle.nxt_nbc_names.specs.Structs.{shapes_of}
 use Rattle.nxt_nbc_names.specs.StructsSeen.{structs_seen}
 use Rattle.nxt_nbc_kinds.proofs.KnownKinds.{AreKnown, are_kinship, known_more}
-use Rattle.nxt_nbc_kinds.proofs.kin.Kinship.of.Goals as goal
+use Rattle.nxt_nbc_kinds.proofs.conversions.Conversions.of.Goals as goal
 
 pub loop-item-preserved : goal.loop-item-preserved
 loop-item-preserved c =

@@ -3,13 +3,13 @@ use Rattle.std.specs.Prelude.{◌≡◌, ℕ, Bool, false, ◌==◌, List, slice
 use Rattle.nxt_types.specs.Shapes.{Void, convertible}
 use Rattle.nxt_nbc_names.specs.Structs.{Types, declared, shapes_of}
 
--- two structs that have kin are of one kin
-abbrev pub are_kin : Option ℕ → Option ℕ → Bool
-are_kin (Some a) (Some b) = a == b
-are_kin _ _ = false
+-- two structs that convert are of one kind
+abbrev pub are_of_a_kind : Option ℕ → Option ℕ → Bool
+are_of_a_kind (Some a) (Some b) = a == b
+are_of_a_kind _ _ = false
 
--- structs convert to one another where they are of one kin
-abbrev pub IsKinship : Types → List (Option ℕ) → Type 0
-IsKinship t ks =
+-- structs convert to one another where they are of one kind
+abbrev pub AreConversions : Types → List (Option ℕ) → Type 0
+AreConversions t ks =
     (i j : ℕ) → convertible (slice_index_or (shapes_of (declared t)) i Void) (slice_index_or (shapes_of (declared t)) j Void)
-    ≡ are_kin (slice_index_or ks i None) (slice_index_or ks j None)
+    ≡ are_of_a_kind (slice_index_or ks i None) (slice_index_or ks j None)
