@@ -1,4 +1,4 @@
 pub mod Fitting
 pub mod Meanings
 pub mod SeveralFitting
-mod Readied
+mod PreparedStatements

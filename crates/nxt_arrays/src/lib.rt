@@ -2,8 +2,8 @@
 //! operations).
 #![tactic(auto)]
 
-pub mod ready;
+pub mod prepared;
 pub mod run;
 
-pub use ready::{Ready, made_ready, run_ready};
+pub use prepared::{Prepared, prepare, run_prepared};
 pub use run::{run_array, runs};

@@ -40,7 +40,7 @@ impl FirstEntries {
         }
     }
 
-    /// Adds a shape that takes so many entries.
+    /// Adds a shape that takes this number of entries.
     pub(crate) fn add(&mut self, entries: u64) -> Result<(), NoMemory>
         ensures { (ss : List Shape) (s : Shape) → entries ≡ held (size s) → self.old ≡ firsts_of ss → OnOk result (self.new ≡ firsts_of (ss ++ s ∷ [])) }
     {
@@ -49,7 +49,7 @@ impl FirstEntries {
         Ok(())
     }
 
-    /// Adds so many shapes that each take so many entries.
+    /// Adds `count` shapes that each take this number of entries.
     pub(crate) fn add_all(&mut self, entries: u64, count: usize) -> Result<(), NoMemory>
         ensures { (ss : List Shape) (s : Shape) → entries ≡ held (size s) → self.old ≡ firsts_of ss → OnOk result (self.new ≡ firsts_of (ss ++ replicate count s)) }
     {

@@ -300,7 +300,7 @@ fn table_of_rows(
     Ok(bytes)
 }
 
-/// The dynamic defaults of a program with these measures and constants, whose static bytes are so many: the table of rows and
+/// The dynamic defaults of a program with these measures and constants, behind its static bytes: the table of rows and
 /// the lists' bytes, or nothing where there are no arrays.
 pub fn dynamic_defaults_of(
     alloc: Global,

@@ -75,7 +75,7 @@ impl Measure {
             .saturating_add(self.ones)
     }
 
-    /// That of one entry with leaves of so many bytes.
+    /// That of one entry, by how many leaves of four bytes, of two and of one it has.
     pub(crate) fn of_entry(fours: u64, twos: u64, ones: u64) -> Measure
         ensures { result ≡ record { entries = 1; fours = fours; twos = twos; ones = ones; arrays = 0 } }
     {
@@ -112,7 +112,7 @@ impl Measure {
         }
     }
 
-    // That of a type that is made an array so often.
+    // That of a type with this number of arrays around it.
     fn of_arrays(self, arrays: usize) -> Measure
         ensures { (s : Shape) → self ≡ measure_of s → result ≡ measure_of (arrays_of arrays s) }
     {
@@ -246,7 +246,7 @@ fn among_first(of: NbcType, first: usize) -> NbcType
     }
 }
 
-// A step into a struct, which stands behind so many.
+// A step into a struct, which stands behind `behind` others.
 fn step_in(found: &StructMeasure, behind: usize, position: usize) -> MemberMeasure
     ensures { (ss : List Shape) (types : List NbcType) → found.now ≡ struct_measure (take behind ss) (record { members = types }) → IsStep ss position (struct_shape (take behind ss) (record { members = types })) result }
 {

@@ -46,7 +46,7 @@ impl NextPlaces {
         }
     }
 
-    // Where the next leaf of so many bytes stands.
+    // Where the next leaf of this size in bytes stands.
     fn place(self, bytes: u64) -> u64
         ensures { result ≡ next_place self bytes }
     {

@@ -53,7 +53,7 @@ fn push_declared(types: &mut NbcTypes, vars: &[NbcVar]) -> Result<(), NoMemory>
     Ok(())
 }
 
-// Adds a type so many times.
+// Adds a type `count` times.
 fn push_many(types: &mut NbcTypes, of: NbcType, count: usize) -> Result<(), NoMemory>
     ensures { OnOk result (types.new ≡ types.old ++ replicate count of) }
 {

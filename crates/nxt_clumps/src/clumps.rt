@@ -37,7 +37,7 @@ impl Model for Clumps {
 }
 
 impl Clumps {
-    /// The clumps of a program at their start, with so many mutexes. The dependents are numbers of clumps.
+    /// The clumps of a program at their start, with a mutex for each entry of the table. The dependents are numbers of clumps.
     pub fn new(
         alloc: Global,
         plans: Vec<Plan>,
@@ -98,7 +98,7 @@ impl Clumps {
         }
     }
 
-    /// The clump that runs stands at a place, with so many more bytecodes of its turn done.
+    /// The clump that runs stands at a place, with more bytecodes of its turn done.
     pub fn advance(&mut self, place: u32, bytecodes: u32)
         requires head { IsSome (slice_get self.old.state.queue 0) }
         requires turn { self.old.state.turn + bytecodes ≤ 20 }
@@ -234,7 +234,7 @@ impl Clumps {
     }
 
     /// What clumps hold is sound: each has a plan. The call does nothing.
-    pub fn is_sound(&self)
+    pub fn recall_sound(&self)
         ensures { length self.now.state.clumps ≡ length self.now.plans }
     {
         let _state = &self.state;

@@ -55,7 +55,7 @@ impl Model for State {
 }
 
 impl State {
-    /// The clumps of a program at its start, with so many mutexes.
+    /// The clumps of a program at its start, with a mutex for each entry of the table.
     pub fn new(alloc: Global, plans: &Plans, entries: u32) -> Result<State, NoMemory>
         ensures { IfOk result (λ s. s ≡ clumps_at_start plans.now entries) }
     {
@@ -149,7 +149,7 @@ impl State {
         self.turn = 0;
     }
 
-    /// A clump stands at a place, with so many more bytecodes of its turn done.
+    /// A clump stands at a place, with more bytecodes of its turn done.
     pub fn advance(&mut self, c: u8, place: u32, bytecodes: u8)
         requires inside { c < length self.old.clumps }
         requires turn { self.old.turn + bytecodes ≤ 20 }

@@ -11,7 +11,7 @@ use crate::settling::compact;
 use nxt_rows::{DopeRow, get, set};
 use nxt_types::pool::round4;
 
-/// Opens room for so many bytes at a row's place: all gaps close, what stands above the row's block moves up, and the block
+/// Opens room for `bytes` at a row's place: all gaps close, what stands above the row's block moves up, and the block
 /// keeps its front and its count. A row without a block gets the end of the last block as its place.
 pub fn open_gap(pool: &mut [u8], table: &mut u32, base: u32, row: u16, bytes: u32)
     requires { HasRoom pool.old table.old base row bytes }
@@ -44,7 +44,7 @@ fn end_of_blocks(pool: &[u8], table: u32, base: u32) -> u32
     end
 }
 
-/// Moves the blocks that begin at or above a place up by so many bytes.
+/// Moves the blocks that begin at or above a place up by `more` bytes.
 fn lift(pool: &mut [u8], table: &mut u32, above: u32, more: u32)
     requires { IsLiftable pool.old table.old above more }
     ensures { (base : ℕ) → base ≤ above → base ≤ table.old → Moves base (up_from above more) pool.old pool.new table.old table.new }

@@ -51,7 +51,7 @@ fn is_failing(failing: &[u32], call: u64) -> bool
     failing.iter().any(|number| u64::from(*number) == call)
 }
 
-// Copies what there is, at most so many bytes, to the front of a slice.
+// Copies what there is, `most` bytes at most, to the front of a slice.
 fn copy_front(from: &[u8], into: &mut [u8], most: usize) -> usize
     requires { 1 ≤ most }
     ensures count { result ≡ min (min (length from.now) (length into.new)) most }

@@ -23,7 +23,7 @@ pub enum ReadAllFault {
 
 const BUFFER: usize = 4096;
 
-/// Reads once, at most so many bytes and at most 4,096, and adds what came. The count 0 is the end.
+/// Reads once, `room` bytes at most and 4,096 at most, and adds what came. The count 0 is the end.
 pub fn read_some<S: Source>(
     source: &mut S,
     bytes: &mut Bytes,
@@ -49,7 +49,7 @@ pub fn read_some<S: Source>(
     Ok(count)
 }
 
-/// What a source has left: all of it, or, where it has more than the limit, so many bytes of it and one more.
+/// What a source has left: all of it, or, where it has more than the limit, the limit's bytes and one more.
 pub fn read_front<S: Source>(
     alloc: Global,
     source: &mut S,

@@ -36,7 +36,7 @@ fn is_motor(line: &Line) -> bool
     matches!(line, Line::Motor(..))
 }
 
-// The sum of the powers. So many lines that 64 bits don't hold it have no room in memory.
+// The sum of the powers. Lines for which 64 bits don't hold it have no room in memory.
 fn sum_of_powers(lines: &[Line]) -> Result<i64, NoMemory>
     ensures { IfOk result (λ sum. sum ≡ sum_of_powers lines.now) }
 {

@@ -18,7 +18,7 @@ pub fn generated_text(alloc: Global, number: u32) -> Result<Bytes, NoMemory>
     text_of(alloc, TIMES, number)
 }
 
-// The text with so many times three statements.
+// The text with three statements `times` times over.
 fn text_of(alloc: Global, times: usize, number: u32) -> Result<Bytes, NoMemory>
     ensures { IfOk result (λ text. text ≡ text_of times number) }
 {
@@ -41,7 +41,7 @@ fn head(alloc: Global) -> Result<Bytes, NoMemory>
     Ok(text)
 }
 
-// So many times three drawn statements.
+// Three drawn statements, `times` times over.
 fn push_statements(text: &mut Bytes, times: usize, number: u32) -> Result<(), NoMemory>
     ensures { OnOk result (text.new ≡ text.old ++ statements_from times number) }
 {

@@ -19,7 +19,7 @@ use nxt_rows::{DopeRow, NO_PLACE, free_row, get, set, take_row};
 use nxt_types::pool::{POOL_BYTES, ROW_BYTES, round4};
 
 /// The places of a pool: where blocks may begin, where the table stands, where the last block ends, and where it would end
-/// without gaps; and a place below which no hole begins that holds so many bytes as were sought.
+/// without gaps; and a place below which no hole begins that holds the bytes that were sought last.
 #[derive(Clone, Copy)]
 pub struct Places {
     pub base: u32,
@@ -30,7 +30,7 @@ pub struct Places {
     pub sought: u32,
 }
 
-/// The front of the lowest hole that holds so many bytes.
+/// The front of the lowest hole that holds these bytes.
 fn hole(pool: &[u8], fronts: &[u16], at: Places, bytes: u32) -> Option<u32>
     requires blocks { AreBlocks pool.now fronts.now at }
     requires word { bytes % 4 ≡ 0 }
@@ -110,7 +110,7 @@ pub fn settle(pool: &mut [u8], fronts: &mut [u16], at: &mut Places, k: u16) -> u
     settled
 }
 
-/// Opens room for so many bytes in a row's block by moving other blocks, and gives the block's place.
+/// Opens room for `bytes` in a row's block by moving other blocks, and gives the block's place.
 fn slide(pool: &mut [u8], fronts: &mut [u16], at: &mut Places, row: u16, bytes: u32) -> u32
     requires blocks { AreBlocks pool.old fronts.old at.old }
     requires may { MayHave pool.old at.old.table at.old.base row bytes }
@@ -136,7 +136,7 @@ fn refresh(pool: &[u8], fronts: &mut [u16], table: u32) -> u32
     last_end(fronts, pool, table, POOL_BYTES as u32)
 }
 
-/// Gives a row's block room for so many bytes, and gives the block's place, or where it is to stand if the row has none.
+/// Gives a row's block room for `bytes`, and gives the block's place, or where it is to stand if the row has none.
 /// Blocks move only at need.
 #[inline(always)]
 pub fn make_room(pool: &mut [u8], fronts: &mut [u16], at: &mut Places, row: u16, bytes: u32) -> u32
@@ -166,7 +166,7 @@ fn is_open(fronts: &[u16], from: u32, to: u32) -> bool
     to as u64 <= POOL_BYTES && first_front(fronts, word(from), word(to)).is_none()
 }
 
-/// Moves a row's block into a hole for so many bytes, or opens room behind it, and gives the block's place.
+/// Moves a row's block into a hole for `bytes`, or opens room behind it, and gives the block's place.
 fn place_longer(pool: &mut [u8], fronts: &mut [u16], at: &mut Places, row: u16, bytes: u32) -> u32
     requires blocks { AreBlocks pool.old fronts.old at.old }
     requires may { MayHave pool.old at.old.table at.old.base row bytes }
@@ -186,7 +186,7 @@ fn place_longer(pool: &mut [u8], fronts: &mut [u16], at: &mut Places, row: u16, 
     }
 }
 
-/// Finds a hole for so many bytes of a row without a block, or closes all gaps, and gives the place.
+/// Finds a hole for `bytes` of a row without a block, or closes all gaps, and gives the place.
 fn place_new(pool: &mut [u8], fronts: &mut [u16], at: &mut Places, row: u16, bytes: u32) -> u32
     requires blocks { AreBlocks pool.old fronts.old at.old }
     requires may { MayHave pool.old at.old.table at.old.base row bytes }
@@ -208,7 +208,7 @@ fn place_new(pool: &mut [u8], fronts: &mut [u16], at: &mut Places, row: u16, byt
     }
 }
 
-/// Gives a list so many bytes at a place that has room for them. Its front stays, and new bytes are 0.
+/// Gives a list its `bytes` at a place that has room for them. Its front stays, and new bytes are 0.
 fn set_length(
     pool: &mut [u8],
     fronts: &mut [u16],
@@ -238,7 +238,7 @@ fn set_length(
     at.searched = still_searched(*at, place);
 }
 
-/// Writes the row of a list that has so many bytes at a place, and zeros behind its front.
+/// Writes the row of a list that has its `bytes` at a place, and zeros behind its front.
 fn write_length(pool: &mut [u8], table: u32, row: u16, place: u32, bytes: u32)
     requires list { IsListRow pool.old table row bytes }
     requires table { table + 10 * row_count pool.old table ≤ length pool.old }
@@ -343,7 +343,7 @@ fn write_none(pool: &mut [u8], table: u32, row: u16)
     );
 }
 
-/// Gives a list so many bytes, a multiple of its stride. Its front stays, and new bytes are 0.
+/// Gives a list the length of `bytes`, a multiple of its stride. Its front stays, and new bytes are 0.
 pub fn resize_list(pool: &mut [u8], fronts: &mut [u16], at: &mut Places, row: u16, bytes: u32)
     requires blocks { AreBlocks pool.old fronts.old at.old }
     requires list { IsListRow pool.old at.old.table row bytes }
@@ -491,7 +491,7 @@ pub fn lay_out(pool: &mut [u8], fronts: &mut [u16], base: u32, rows: u16) -> Pla
     }
 }
 
-/// Makes all bytes 0, and a table of so many rows at this place, row 0 and free rows.
+/// Makes all bytes 0, and a table of `rows` rows at this place, row 0 and free rows.
 fn free_all(pool: &mut [u8], table: u32, rows: u16)
     requires size { length pool.old ≡ pool_size }
     requires word { table % 4 ≡ 0 }
@@ -572,7 +572,7 @@ pub fn copy_bytes(pool: &mut [u8], table: u32, to: u16, from: u16)
     }
 }
 
-/// Stores so many bytes from one place at another.
+/// Stores `bytes` from one place at another.
 fn copy_part(pool: &mut [u8], from: usize, bytes: usize, to: usize)
     requires from { from + bytes ≤ length pool.old }
     requires to { to + bytes ≤ length pool.old }

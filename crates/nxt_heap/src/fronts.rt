@@ -64,7 +64,7 @@ pub fn block_end(pool: &[u8], table: u32, row: u16) -> u32
     found.place as u32 + block_bytes(found) as u32
 }
 
-/// The front of the lowest hole at a place or above it that holds so many bytes. No block reaches over the place.
+/// The front of the lowest hole at a place or above it that holds `bytes`. No block reaches over the place.
 pub fn first_fit(fronts: &[u16], pool: &[u8], table: u32, start: u32, bytes: u32) -> Option<u32>
     requires pool { (base : ℕ) × IsPool pool.now table base }
     requires fronts { AreFronts pool.now table fronts.now }

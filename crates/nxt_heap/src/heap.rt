@@ -297,7 +297,7 @@ impl Heap {
 
     /// What a heap holds is sound: the pool has 32,768 bytes, row 0 is the table's own, and no list, the pool's rows read as the
     /// lists, and the blocks share no byte. The call does nothing.
-    pub fn is_sound(&self)
+    pub fn recall_sound(&self)
         ensures first { list_at self.now.lists 0 ≡ None }
         ensures holds { HoldHeap self.now.pool.bytes self.now.pool.table self.now.lists }
         ensures apart { IsSound self.now.pool.bytes self.now.pool.table (base_of self.now.lists) }

@@ -152,7 +152,7 @@ fn wait_form(size: u16, rest: &[u16]) -> Option<(Instr, u32)>
     Some((closed(Op::Wait, Cmp::Lt, &operands), 3))
 }
 
-// A long form of so many operands.
+// A long form of `count` operands.
 fn fixed_form(op: Op, cmp: Cmp, count: u8, size: u16, rest: &[u16]) -> Option<(Instr, u32)>
     ensures { result ≡ placed (exactly count) 0 (fixed_form op cmp count size rest.now) }
 {

@@ -68,7 +68,7 @@ impl Io {
     }
 
     /// There are three motors, each of fifteen properties, and four sensors. The call does nothing.
-    pub fn is_sound(&self)
+    pub fn recall_sound(&self)
         ensures motors { length self.now.motors ≡ 3 }
         ensures properties { (port : ℕ) → port < 3 → length (motor_at port self.now) ≡ 15 }
         ensures sensors { length self.now.sensors ≡ 4 }

@@ -50,7 +50,7 @@ pub fn build(alloc: Global, space: &mut Space, dest: u16, sources: &[u16]) -> Re
     store(space, dest, &flat)
 }
 
-/// Stores a list of so many copies of a value.
+/// Stores a list of copies of a value.
 pub fn initialize(
     alloc: Global,
     space: &mut Space,
@@ -119,7 +119,7 @@ fn element_of(space: &Space, list: u16) -> &Shape
     }
 }
 
-// The size of so many values of a shape that the numbers begin with.
+// The size of `count` values of a shape that the numbers begin with.
 fn size_of_many(shape: &Shape, count: u32, from: &[i64]) -> Size
     requires { IsCountable (size_of_each (tree shape.now) (many_filled (tree shape.now) count from.now)) }
     ensures { result ≡ size_of_each (tree shape.now) (many_filled (tree shape.now) count from.now) }
@@ -134,7 +134,7 @@ fn size_of_many(shape: &Shape, count: u32, from: &[i64]) -> Size
     sum
 }
 
-// The flat form of the list of what all sources give, which has so many elements.
+// The flat form of the list of what all sources give, which has `count` elements.
 fn joined(
     alloc: Global,
     space: &Space,
@@ -158,7 +158,7 @@ fn joined(
     Ok(flat)
 }
 
-// The size of so many values of one size.
+// The size of `count` values of one size.
 fn times(size: Size, count: u32) -> Size
     requires lists { size.lists < 2 ^ 31 }
     requires bytes { size.bytes < 2 ^ 32 }
@@ -171,7 +171,7 @@ fn times(size: Size, count: u32) -> Size
     }
 }
 
-// The flat form of the list of so many copies of a value that has this flat form.
+// The flat form of the list of `count` copies of a value that has this flat form.
 fn copies(alloc: Global, count: u32, one: &[i64]) -> Result<Flat, NoMemory>
     ensures { IfOk result (λ flat. flat ≡ pos count ∷ flat_map (λ zs. zs) (replicate count one.now)) }
 {

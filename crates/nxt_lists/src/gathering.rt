@@ -93,7 +93,7 @@ fn has_element(list: &Shape, value: &Shape) -> bool
     }
 }
 
-/// Adds the flat forms of what a value gives for a list, but of so many elements at most: the value itself as one element, or
+/// Adds the flat forms of what a value gives for a list, but of `most` elements at most: the value itself as one element, or
 /// else its elements. Gives their number.
 pub fn push_pieces(
     alloc: Global,

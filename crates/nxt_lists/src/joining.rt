@@ -116,7 +116,7 @@ pub fn count_numbers(space: &Space, dest: u16, to: ListSpot, sources: &[u16]) ->
     Some(count)
 }
 
-// Asks the pool whether a variable may hold a list of so many numbers, where they are more than the pool has bytes. Of fewer
+// Asks the pool whether a variable may hold a list of `count` numbers, where they are more than the pool has bytes. Of fewer
 // it is told when they are stored.
 fn check_many(space: &Space, dest: u16, to: ListSpot, count: u64) -> Result<(), OpFault>
     requires sound { AreSound space.now.vars }
@@ -131,7 +131,7 @@ fn check_many(space: &Space, dest: u16, to: ListSpot, count: u64) -> Result<(), 
     Ok(())
 }
 
-/// Stores the list of the numbers that all sources give, where the pool has room for so many.
+/// Stores the list of the numbers that all sources give, where the pool has room for them.
 pub fn store_joined(
     alloc: Global,
     space: &mut Space,
@@ -159,7 +159,7 @@ pub fn store_joined(
     }
 }
 
-// The bytes of the numbers that all sources give. Memory for so many is taken at once.
+// The bytes of the numbers that all sources give. Memory for all of them is taken at once.
 fn joined_numbers(
     alloc: Global,
     space: &Space,

@@ -133,7 +133,7 @@ fn push_section(
     into.append(&held[(from * size) as usize..(end * size) as usize])
 }
 
-/// Stores a list of so many copies of a number, where the pool has room for it.
+/// Stores a list of `count` copies of a number, where the pool has room for it.
 pub fn store_copies(
     alloc: Global,
     space: &mut Space,
@@ -153,7 +153,7 @@ pub fn store_copies(
     store_numbers(space, to, &bytes)
 }
 
-// The bytes of so many copies of a number of a kind.
+// The bytes of `count` copies of a number of a kind.
 fn bytes_of_copies(alloc: Global, kind: Kind, word: u32, count: u32) -> Result<Bytes, NoMemory>
     ensures { IfOk result (λ bytes. (v : Value) → word ≡ word_of v → AreStored kind bytes (replicate count v)) }
 {

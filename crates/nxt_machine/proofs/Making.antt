@@ -2,7 +2,7 @@
 
 -- How many statements code has.
 pub mod Counts
--- A statement that is made ready stands for that of the words.
+-- A statement that is prepared stands for that of the words.
 pub mod Readied
 -- What the rules of accepted code say of its clumps and operands.
 pub mod Accepted

@@ -10,7 +10,7 @@ use Rattle.nxt_model.specs.Step.{Running, next_running, bytecode}
 use Rattle.nxt_model.specs.declared.event.Event.{Event}
 use Rattle.nxt_model.specs.declared.event.Event.TheVariants as events
 use Rattle.nxt_ops.specs.Ops.{runs as computes}
-use Rattle.nxt_ops.specs.Ready.{is_a_number}
+use Rattle.nxt_ops.specs.Preparing.{is_a_number}
 use Rattle.nxt_machine.specs.Machines.{MachineViews}
 
 -- statements on motors, sensors and the clock, a rest and the program's end

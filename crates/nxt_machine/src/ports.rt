@@ -83,7 +83,7 @@ fn set_one(
     if room_if(true, out).is_ok() {
         return set_motor(space, io, port, instr, words, out);
     }
-    io.is_sound();
+    io.recall_sound();
     if flags_after(space, io, port, instr, words) != 0 {
         return Err(NoMemory);
     }
@@ -139,7 +139,7 @@ fn set_motor(
     ensures silent { update_flags (with_pairs space.now.vars (drop 1 (statement_of instr.now words.now).args) (motor_at port io.old)) ≡ 0 → IsOk result }
     ensures room { out.old.room ≤ out.new.room + 1 }
 {
-    io.is_sound();
+    io.recall_sound();
     store_pairs(space, io, port, instr, words);
     if io.flags(port) == 0 {
         return Ok(());
@@ -153,7 +153,7 @@ fn store_pairs(space: &Space, io: &mut Io, port: u8, instr: &Instr, words: &[u16
     requires port { port < 3 }
     ensures { io.new ≡ with_motor port (with_pairs space.now.vars (drop 1 (statement_of instr.now words.now).args) (motor_at port io.old)) io.old }
 {
-    io.is_sound();
+    io.recall_sound();
     let count = instr.operand_count(words);
     let mut k = 1;
     while k + 1 < count {
@@ -169,7 +169,7 @@ fn flags_after(space: &Space, io: &Io, port: u8, instr: &Instr, words: &[u16]) -
     requires port { port < 3 }
     ensures { result ≡ update_flags (with_pairs space.now.vars (drop 1 (statement_of instr.now words.now).args) (motor_at port io.now)) }
 {
-    io.is_sound();
+    io.recall_sound();
     let count = instr.operand_count(words);
     let mut flags = io.flags(port);
     let mut k = 1;
@@ -196,7 +196,7 @@ fn flags_with(flags: u8, prop: u16, x: i64) -> u8
 pub(crate) fn set_input(space: &Space, io: &mut Io, instr: &Instr)
     ensures { io.new ≡ set_in (word (number_at space.now.vars instr.now.b)) instr.now.c (number_at space.now.vars instr.now.a) io.old }
 {
-    io.is_sound();
+    io.recall_sound();
     io.set_in(
         port_at(space, instr.b),
         property(instr.c),
@@ -211,7 +211,7 @@ pub(crate) fn get_input(space: &mut Space, io: &Io, instr: &Instr)
     ensures value { space.new.vars ≡ record space.old.vars { values = with_value space.old.vars instr.now.a (stored (shape_of space.old.vars instr.now.a) (Num (get_in (word (number_at space.old.vars instr.now.b)) instr.now.c io.now))) } }
     ensures stays { TableStays space.old space.new }
 {
-    io.is_sound();
+    io.recall_sound();
     let x = io.get_in(port_at(space, instr.b), property(instr.c));
     space.set(instr.a, x);
 }
@@ -223,7 +223,7 @@ pub(crate) fn get_output(space: &mut Space, io: &Io, instr: &Instr)
     ensures value { space.new.vars ≡ record space.old.vars { values = with_value space.old.vars instr.now.a (stored (shape_of space.old.vars instr.now.a) (Num (get_out (word (number_at space.old.vars instr.now.b)) instr.now.c io.now))) } }
     ensures stays { TableStays space.old space.new }
 {
-    io.is_sound();
+    io.recall_sound();
     let x = io.get_out(port_at(space, instr.b), property(instr.c));
     space.set(instr.a, x);
 }

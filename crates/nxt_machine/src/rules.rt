@@ -13,7 +13,7 @@ ghost use Rattle.nxt_machine.specs.Inside.Stopping.{may_stop as may_stop_by};
 
 use crate::naming::{number, stops};
 use crate::program::Program;
-use crate::statement::Did;
+use crate::statement::Outcome;
 use nxt_clumps::Clumps;
 use nxt_code::StatementAt;
 use nxt_model::line::Stop;
@@ -40,8 +40,8 @@ fn rule(
     ensures image { image_in program.new ≡ image_in program.old }
     ensures code { program.new.code ≡ program.old.code }
 {
-    clumps.is_sound();
-    program.space.is_sound();
+    clumps.recall_sound();
+    program.space.recall_sound();
     match i.op {
         Op::Stop => {
             if stops(&program.space, i.a) {
@@ -73,13 +73,13 @@ fn call(program: &mut Program, clumps: &mut Clumps, h: u8, i: &Instr) -> Result<
     ensures image { image_in program.new ≡ image_in program.old }
     ensures code { program.new.code ≡ program.old.code }
 {
-    clumps.is_sound();
+    clumps.recall_sound();
     clumps.call(i.a as u8)?;
     program.space.set(i.b, i64::from(h));
     Ok(())
 }
 
-// The clump that runs sleeps so many ms, or goes to the queue's end.
+// The clump that runs sleeps for `ms`, or goes to the queue's end.
 fn wait(clumps: &mut Clumps, clock: u64, ms: u32)
     requires head { IsSome (slice_get clumps.old.state.queue 0) }
     requires clock { clock ≤ 2 ^ 62 }
@@ -101,7 +101,7 @@ pub(crate) fn go_on(
     h: u8,
     place: u32,
     placed: &StatementAt,
-    did: Did,
+    did: Outcome,
 ) -> Option<Stop>
     requires program { IsProgram program.old }
     requires clumps { AreClumpsOf program.old clumps.old }
@@ -117,13 +117,13 @@ pub(crate) fn go_on(
     ensures turn { clumps.new.state.turn < 20 }
 {
     match did {
-        Did::Next(next) => {
+        Outcome::Next(next) => {
             clumps.advance(next, 1);
             let why = rule(program, clumps, clock, h, &placed.instr).err();
             clumps.end_bytecode();
             why
         }
-        Did::Passed(bytes) => {
+        Outcome::Passed(bytes) => {
             clumps.advance(place + 1, 1);
             clumps.end_bytecode();
             Some(Stop::Memory(bytes))

@@ -3,7 +3,7 @@
 ghost use Rattle.std.specs.Prelude.{◌≡◌, ◌≤◌, ◌^◌, slice_get, ℕ, List, [], IfOk, IsOk, OnOk, OnErr, Some, true, false};
 ghost use Rattle.nxt_types.specs.Statements.{statement_of};
 ghost use Rattle.nxt_ops.specs.Ops.{runs as does_compute};
-ghost use Rattle.nxt_ops.specs.Ready.{on_numbers};
+ghost use Rattle.nxt_ops.specs.Preparing.{on_numbers};
 ghost use Rattle.nxt_arrays.specs.Arrays.{runs as works_on_lists};
 ghost use Rattle.nxt_types.specs.declared.instr.Op.TheVariants as op;
 ghost use Rattle.nxt_model.specs.Devices.{Devices};
@@ -32,19 +32,19 @@ use std::alloc::Global;
 
 /// What a statement did, its clump aside.
 #[derive(Clone, Copy, PartialEq, Eq, Debug)]
-pub(crate) enum Did {
+pub(crate) enum Outcome {
     /// It ran, and the clump goes on at a place.
     Next(u32),
     /// The pool doesn't hold its values; the footprint in bytes that they would have.
     Passed(u64),
 }
 
-impl Did {
+impl Outcome {
     /// Whether the pool doesn't hold its values.
     pub(crate) fn is_passed(self) -> bool
         ensures { result ≡ is_passed self }
     {
-        matches!(self, Did::Passed(_))
+        matches!(self, Outcome::Passed(_))
     }
 }
 
@@ -57,7 +57,7 @@ pub(crate) fn perform(
     place: u32,
     placed: &StatementAt,
     out: &mut Lines,
-) -> Result<Did, NoMemory>
+) -> Result<Outcome, NoMemory>
     requires program { IsProgram program.old }
     requires clock { clock.now ≤ 2 ^ 62 }
     requires at { slice_get program.old.code.decoded.placed.items place ≡ Some placed.now }
@@ -85,7 +85,7 @@ pub(crate) fn perform(
         Op::Syscall => call(alloc, program, io, clock, place, placed, out),
         _ => {
             act(alloc, program, io, clock, placed, out)?;
-            Ok(Did::Next(place + 1))
+            Ok(Outcome::Next(place + 1))
         }
     }
 }
@@ -118,7 +118,7 @@ fn act(
     ensures room { may_stop program.old.space.vars placed.now.instr ≡ true → out.new ≡ out.old }
     ensures numbers { works_on_numbers placed.now.instr.op (operands_at program.old.space.vars (statement_of placed.now.instr program.old.code.words)) ≡ true → (effect_at (record { vars = program.old.space.vars; devices = io.old; lines = out.old.lines }) (clock_of clock) (statement_of placed.now.instr program.old.code.words)).lines ≡ [] → IsOk result }
 {
-    program.space.is_sound();
+    program.space.recall_sound();
     let instr = &placed.instr;
     match instr.op {
         Op::Setout => {
@@ -154,7 +154,7 @@ fn call(
     place: u32,
     placed: &StatementAt,
     out: &mut Lines,
-) -> Result<Did, NoMemory>
+) -> Result<Outcome, NoMemory>
     requires program { IsProgram program.old }
     requires call { placed.now.instr.op ≡ op.Syscall }
     requires at { slice_get program.old.code.decoded.placed.items place ≡ Some placed.now }
@@ -170,11 +170,11 @@ fn call(
     ensures told { OnErr result (out.new.lines ≡ out.old.lines) }
     ensures passed { IfOk result (IsUnmoved program.old program.new) }
 {
-    program.space.is_sound();
+    program.space.recall_sound();
     let (number, cluster) = (placed.instr.a, placed.instr.b);
     match syscall(alloc, number, cluster, &mut program.space, io, clock, out) {
-        Ok(_) => Ok(Did::Next(place + 1)),
-        Err(OpFault::PoolPassed(bytes)) => Ok(Did::Passed(bytes)),
+        Ok(_) => Ok(Outcome::Next(place + 1)),
+        Err(OpFault::PoolPassed(bytes)) => Ok(Outcome::Passed(bytes)),
         Err(OpFault::NoMemory) => Err(NoMemory),
     }
 }
@@ -185,7 +185,7 @@ pub(crate) fn compute(
     program: &mut Program,
     place: u32,
     placed: &StatementAt,
-) -> Result<Did, NoMemory>
+) -> Result<Outcome, NoMemory>
     requires program { IsProgram program.old }
     requires computes { does_compute placed.now.instr.op ≡ true }
     requires at { slice_get program.old.code.decoded.placed.items place ≡ Some placed.now }
@@ -199,14 +199,14 @@ pub(crate) fn compute(
     ensures passed { IfOk result (IsUnmoved program.old program.new) }
     ensures numbers { on_numbers program.old.space.vars placed.now.instr ≡ true → IsOk result }
 {
-    program.space.is_sound();
+    program.space.recall_sound();
     match run_op(alloc, &placed.instr, &program.toc, &mut program.space) {
-        Ok(Next::Fall) => Ok(Did::Next(place + 1)),
+        Ok(Next::Fall) => Ok(Outcome::Next(place + 1)),
         Ok(Next::Jump(offset)) => {
             let word = landing(placed.word, offset);
-            Ok(Did::Next(program.code.decoded.statement_number(word) as u32))
+            Ok(Outcome::Next(program.code.decoded.statement_number(word) as u32))
         }
-        Err(OpFault::PoolPassed(bytes)) => Ok(Did::Passed(bytes)),
+        Err(OpFault::PoolPassed(bytes)) => Ok(Outcome::Passed(bytes)),
         Err(OpFault::NoMemory) => Err(NoMemory),
     }
 }
@@ -217,7 +217,7 @@ pub(crate) fn arrange(
     program: &mut Program,
     place: u32,
     placed: &StatementAt,
-) -> Result<Did, NoMemory>
+) -> Result<Outcome, NoMemory>
     requires program { IsProgram program.old }
     requires on_lists { works_on_lists placed.now.instr.op ≡ true }
     requires at { slice_get program.old.code.decoded.placed.items place ≡ Some placed.now }
@@ -230,7 +230,7 @@ pub(crate) fn arrange(
     ensures same { OnErr result (program.new ≡ program.old) }
     ensures passed { IfOk result (IsUnmoved program.old program.new) }
 {
-    program.space.is_sound();
+    program.space.recall_sound();
     match run_array(
         alloc,
         &placed.instr,
@@ -238,8 +238,8 @@ pub(crate) fn arrange(
         &program.toc,
         &mut program.space,
     ) {
-        Ok(()) => Ok(Did::Next(place + 1)),
-        Err(OpFault::PoolPassed(bytes)) => Ok(Did::Passed(bytes)),
+        Ok(()) => Ok(Outcome::Next(place + 1)),
+        Err(OpFault::PoolPassed(bytes)) => Ok(Outcome::Passed(bytes)),
         Err(OpFault::NoMemory) => Err(NoMemory),
     }
 }

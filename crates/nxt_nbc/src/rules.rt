@@ -101,7 +101,7 @@ fn check_operands<'a>(
     }
 }
 
-// The rules of main and of counts, where so many names are declared.
+// The rules of main and of counts, where `names` names are declared.
 fn check_counts<'a>(
     formed: &Formed<'a>,
     source: &Source<'_, 'a>,

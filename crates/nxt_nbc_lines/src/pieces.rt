@@ -21,7 +21,7 @@ impl Model for Piece {
     ghost view = { λ p. (p.is_token, p.len) };
 }
 
-// A token of so many bytes.
+// A token of `len` bytes.
 fn token(len: usize) -> Option<Piece>
     ensures { result ≡ a_token len }
 {
@@ -31,7 +31,7 @@ fn token(len: usize) -> Option<Piece>
     })
 }
 
-// So many bytes between tokens.
+// The bytes between tokens, `len` of them.
 fn gap(len: usize) -> Option<Piece>
     ensures { result ≡ no_token len }
 {

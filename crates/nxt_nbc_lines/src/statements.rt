@@ -71,7 +71,7 @@ fn comparison_word(words: &[Word<'_>]) -> Option<Cmp>
 
 // ---- statements
 
-// The statement of an operation, if it takes so many operands.
+// The statement of an operation, if it takes as many operands.
 fn with_terms<'a>(label: Option<&'a [u8]>, op: Op, cmp: Cmp, terms: Terms<'a>) -> Option<Form<'a>>
     ensures { option_map form_seen result ≡ with_terms (label_seen label.entry) op cmp (terms_seen terms.entry) }
 {

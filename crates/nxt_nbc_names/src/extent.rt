@@ -63,7 +63,7 @@ impl Extent {
         }
     }
 
-    /// That of a type that is made an array so often.
+    /// That of a type with this number of arrays around it.
     pub fn of_arrays(self, arrays: usize) -> Extent
         ensures { (n d : ℕ) (a : Bool) → self ≡ extent n d a → result ≡ extent (n + arrays) (d + arrays) (nat_lt 0 arrays || a) }
     {

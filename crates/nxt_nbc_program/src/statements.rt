@@ -29,7 +29,7 @@ struct Place {
     dependents: usize,
 }
 
-/// The statements of a block with this number, which lowers so many threads when it ends.
+/// The statements of a block with this number, which lowers `dependents` threads when it ends.
 pub fn body_of<'a>(
     alloc: Global,
     source: &Source<'_, 'a>,
@@ -144,7 +144,7 @@ fn ending(alloc: Global, line: u32, dependents: usize) -> Result<NbcStatement, N
     Ok(plain(line, Op::Finclump, args))
 }
 
-// The position of the last of so many, in 16 bits.
+// The position of the last of `count`, in 16 bits.
 fn last_of(count: usize) -> u16
     ensures { result ≡ (count + 65535) % 65536 }
 {

@@ -13,7 +13,7 @@ ghost use Rattle.nxt_operands.specs.Operands.{Done, with_list};
 use crate::operands::stride_at;
 use nxt_space::{Flat, OpFault, Size, Space};
 
-/// Whether the pool has room for a list of so many elements, which take so much of it, in a variable.
+/// Whether the pool has room for a list of `count` elements, whose lists and bytes are those of `elements`, in a variable.
 pub fn check_room(space: &Space, dest: u16, count: u64, elements: Size) -> Result<(), OpFault>
     requires sound { AreSound space.now.vars }
     requires named { IsSome (name_of space.now.vars dest) }

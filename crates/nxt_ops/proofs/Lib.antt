@@ -8,7 +8,7 @@ pub mod Passing
 pub mod Written
 pub mod Words
 pub mod OnWords
-pub mod Readied
+pub mod PreparedStatements
 pub mod OnLists
 pub mod Laws
 -- Clusters of numbers, number by number.

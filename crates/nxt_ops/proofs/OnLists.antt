@@ -15,7 +15,7 @@ use Rattle.nxt_model.specs.Values.{Num}
 use Rattle.nxt_space.specs.Variables.{Variables, shape_of}
 use Rattle.nxt_operands.specs.Operands.{AllTrue}
 use Rattle.nxt_ops.specs.Ops.{runs, stores, two_of, one_of, asked_of_two, value_of_two}
-use Rattle.nxt_ops.specs.Ready.{has_number, on_numbers, on_numbers_by}
+use Rattle.nxt_ops.specs.Preparing.{has_number, on_numbers, on_numbers_by}
 use Rattle.nxt_ops.specs.declared.operator.Two.{Two}
 use Rattle.nxt_ops.specs.declared.operator.Two.TheVariants as two
 use Rattle.nxt_ops.specs.declared.operator.One.{One}

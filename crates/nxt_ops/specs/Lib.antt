@@ -1,6 +1,6 @@
 pub mod Elements
 pub mod Ops
-pub mod Ready
+pub mod Preparing
 pub mod Passes
 pub mod Sides
 pub mod Clusters

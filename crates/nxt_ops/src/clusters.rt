@@ -30,7 +30,7 @@ pub fn copy_numbers(space: &mut Space, dest: u16, source: u16) -> bool
         let number = space.get(source + 1 + k);
         space.set(dest + 1 + k, number);
     }
-    space.is_sound();
+    space.recall_sound();
     true
 }
 

@@ -8,9 +8,9 @@ mod in_place;
 mod lists;
 mod operator;
 mod passes;
-pub mod ready;
+pub mod prepared;
 pub mod run;
 
 pub use operator::{One, Two};
-pub use ready::{Ready, made_ready, run_ready};
+pub use prepared::{Prepared, prepare, run_prepared};
 pub use run::{Next, run_op, runs};

@@ -7,7 +7,7 @@ ghost use Rattle.nxt_model.specs.Devices.{Devices};
 ghost use Rattle.nxt_model.specs.SystemCalls.{Clock};
 ghost use Rattle.nxt_model.specs.Means.Numbers.{holds as holds_of, truth};
 ghost use Rattle.nxt_model.specs.Values.{Num, stored};
-ghost use Rattle.nxt_ops.specs.Ready.{on_numbers};
+ghost use Rattle.nxt_ops.specs.Preparing.{on_numbers};
 ghost use Rattle.nxt_space.specs.Keeping.{TableStays, Leaves};
 ghost use Rattle.nxt_space.specs.Variables.{AreSound, name_of, shape_of, value_of, with_value};
 ghost use Rattle.nxt_space.specs.Outcomes.{Does};
@@ -19,7 +19,7 @@ use crate::comparing::holds;
 use crate::in_place::{convert_list, two_lists};
 use crate::lists::{combine_lists, map_list};
 use crate::operator::{One, Two};
-use crate::ready::{made_ready, run_ready};
+use crate::prepared::{prepare, run_prepared};
 use nxt_operands::lists::lists_of_a_kind;
 use nxt_operands::operands::is_number;
 use nxt_operands::reading::flat_of;
@@ -73,7 +73,7 @@ pub fn run_op(alloc: Global, i: &Instr, toc: &Toc, space: &mut Space) -> Result<
     ensures numbers { on_numbers space.old.vars i.now ≡ true → IsOk result }
 {
     // From place 0 it goes on at 0 where it jumps there, and else at 1.
-    if let Some(place) = run_ready(&made_ready(i, space, 0), 0, space) {
+    if let Some(place) = run_prepared(&prepare(i, space, 0), 0, space) {
         return Ok(going_on(i, place == 0));
     }
     if i.op == Op::Brcmp {

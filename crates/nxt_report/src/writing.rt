@@ -36,7 +36,7 @@ pub fn put<R: Sink>(report: &mut R, piece: &[u8]) -> Result<(), Fault>
     }
 }
 
-/// From so many bytes on a gathered text is written.
+/// The bytes from which on a gathered text is written.
 const PIECE: usize = 4_000;
 
 /// Adds the texts of lines to a gathered text, and writes that where it is long enough.

@@ -32,7 +32,7 @@ pub struct Sections<'a> {
     pub code: &'a [u8],
 }
 
-// The bytes of a section, if the file has so many.
+// The bytes of a section, if the file has them.
 fn section(bytes: &[u8], start: usize, size: usize, number: u8) -> Result<&[u8], RxeFault>
     requires start { start < 2 ^ 32 }
     requires size { size < 2 ^ 32 }

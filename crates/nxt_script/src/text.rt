@@ -66,11 +66,11 @@ fn dumps_of(row: &ScriptRow) -> u32
 /// The front of a script: the lines that were passed, with their rows counted, and the bytes that were taken behind them.
 #[derive(Drop)]
 pub(crate) struct Text {
-    // So many of these bytes were passed.
+    // Of the bytes that were taken, those before this place were passed.
     taken: Bytes,
     at: usize,
     ended: bool,
-    // So many bytes of the script stand before the place.
+    // The bytes of the script before the place.
     passed: usize,
     rows: u32,
     bytecodes: u32,

@@ -170,7 +170,7 @@ pub fn size_of_flat(toc: &Toc, i: u16, flat: &Flat) -> Size
     }
 }
 
-/// Whether the pool holds a value of a size in the place of another one, where there are so many lists; or how many bytes
+/// Whether the pool holds a value of a size in the place of another one, among `lists` lists; or how many bytes
 /// would then be taken.
 pub fn fits(heap: &Heap, lists: u64, old: Size, new: Size) -> Result<(), PoolPassed>
     requires lists { old.lists ≤ lists }
@@ -209,7 +209,7 @@ pub fn replace(heap: &mut Heap, toc: &Toc, i: u16, from: &[i64])
         put(heap, toc.entries(), shape, at, from);
     }
     let _rows = heap.row_count();
-    heap.is_sound();
+    heap.recall_sound();
 }
 
 // Stores the value that numbers begin with in the place of another one; the pool holds it.
@@ -231,7 +231,7 @@ fn put(heap: &mut Heap, entries: &[TocEntry], shape: &Shape, at: Place, from: &[
     prove!(stored.is_ok());
 }
 
-/// How many rows a table has at the start, whose file has so many rows and whose variables have so many lists.
+/// How many rows a table has at the start, by the rows of its file and the lists of its variables.
 pub fn rows_for(file_rows: u16, lists: u64) -> u16
     requires { lists + 1 < 2 ^ 16 }
     ensures { result ≡ rows_at_start file_rows lists }
@@ -252,5 +252,5 @@ pub fn fill_start(heap: &mut Heap, toc: &Toc, variables: &[Shape], start: &[i64]
     let filled = fill_members(heap, toc.entries(), variables, at, start);
     prove!(filled.is_ok());
     let _rows = heap.row_count();
-    heap.is_sound();
+    heap.recall_sound();
 }

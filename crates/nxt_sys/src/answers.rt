@@ -40,7 +40,7 @@ pub fn answer_message(
 {
     let entry = entry_of(Call::ReadMessage, cluster, 3);
     store_bytes(alloc, space, entry, message)?;
-    space.is_sound();
+    space.recall_sound();
     set(space, Call::ReadMessage, cluster, 0, outcome);
     Ok(())
 }

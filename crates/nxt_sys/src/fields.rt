@@ -111,5 +111,5 @@ pub fn set(space: &mut Space, call: Call, cluster: u16, k: usize, x: i64)
     ensures lists { (i : ℕ) → is_numbers (shape_of space.old.vars i) ≡ true → value_of space.new.vars i ≡ value_of space.old.vars i }
 {
     space.set(entry_of(call, cluster, k), x);
-    space.is_sound();
+    space.recall_sound();
 }

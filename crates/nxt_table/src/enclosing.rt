@@ -94,7 +94,7 @@ fn open(
     Ok(())
 }
 
-// Ends the frames that are over where the variable needs so many shapes.
+// Ends the frames that are over where the variable needs `needed` shapes more.
 fn close(frames: &mut VecDeque<Frame>, needed: u32)
     ensures { frames.new.items ≡ still_open needed frames.old.items }
 {

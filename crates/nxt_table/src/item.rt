@@ -7,7 +7,7 @@ ghost use Rattle.nxt_table.specs.Inside.Items.{item};
 use nxt_types::kind::Kind;
 use nxt_types::shape::TocEntry;
 
-/// What a table entry declares. A cluster has so many members, whose entries follow
+/// What a table entry declares. A cluster tells how many members it has, whose entries follow
 /// (Executable File Specification, "Dataspace Table of Contents").
 #[derive(Clone, Copy, PartialEq, Eq, Debug)]
 pub enum Item {

@@ -97,7 +97,7 @@ pub fn misplaced(leaves: &[PlacedLeaf], static_size: u16) -> Option<u32>
     None
 }
 
-/// The first leaf whose default ends past so many bytes of default data.
+/// The first leaf whose default ends past the default data.
 pub fn lacking_default(leaves: &[PlacedLeaf], default_size: u16) -> Option<u32>
     ensures { result ≡ lacking_from default_size 0 leaves.now }
 {

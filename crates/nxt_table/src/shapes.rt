@@ -74,7 +74,7 @@ fn stack_item(
     Ok(())
 }
 
-// Takes so many shapes off the front, or all of them.
+// Takes `count` shapes off the front, or all of them.
 fn take_first(
     alloc: Global,
     stack: &mut VecDeque<Shape>,

@@ -42,7 +42,7 @@ pub fn open_variable(entries: &[TocEntry]) -> Option<u32>
     if needed == 0 { None } else { Some(start) }
 }
 
-/// How many shapes a variable still needs behind an item, before which it needs so many.
+/// How many shapes a variable still needs behind an item, before which it needs `needed`.
 pub fn needed_behind(needed: u32, item: Option<Item>) -> u32
     requires { needed < 2 ^ 32 - 2 ^ 16 }
     ensures { result ≡ needs_behind needed item }

@@ -253,7 +253,7 @@ fn run_fit(
     ensures entries { space.new.vars.entries ≡ space.old.vars.entries }
     ensures shapes { space.new.vars.shapes ≡ space.old.vars.shapes }
 {
-    space.is_sound();
+    space.recall_sound();
     let before = space.footprint();
     let answer = run(alloc, i, code.words(), toc, space);
     expect_answer(rt, answer, before, space.footprint(), step);

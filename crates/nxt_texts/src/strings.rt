@@ -227,7 +227,7 @@ fn bodies_length(alloc: Global, space: &Space, sources: &[u16]) -> Result<u64, N
     Ok(length)
 }
 
-// The bodies of texts, one after another. Memory for so many bytes is taken at once.
+// The bodies of texts, one after another. Memory for `room` bytes is taken at once.
 fn bodies(alloc: Global, space: &Space, sources: &[u16], room: usize) -> Result<Bytes, NoMemory>
     requires sound { AreSound space.now.vars }
     requires sources { All (λ i. IsSome (name_of space.now.vars i)) sources.now }

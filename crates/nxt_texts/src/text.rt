@@ -114,7 +114,7 @@ pub fn behind(bytes: &[u8], at: u32) -> &[u8]
     &bytes[(at as usize).min(bytes.len())..]
 }
 
-/// At most so many bytes from a place on.
+/// `count` bytes from a place on, or as many as there are.
 pub fn section(bytes: &[u8], at: u32, count: u32) -> &[u8]
     ensures bytes { result.now ≡ section_of at count bytes.now }
     ensures within { length result.now ≤ length bytes.now }

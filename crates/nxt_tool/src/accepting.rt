@@ -21,8 +21,8 @@ use nxt_types::refusal::{BrokenRule, Place};
 use nxt_types::{Bytes, NoMemory};
 use std::alloc::Global;
 
-/// The machine of a file's program at its start, or why there is none. At the end of each turn it lets so many blocks of the pool
-/// settle as `effort` tells.
+/// The machine of a file's program at its start, or why there is none. At the end of each turn it lets `effort` blocks of the
+/// pool settle.
 pub fn accept(alloc: Global, bytes: &[u8], effort: u8) -> Result<Machine, AcceptFault>
     ensures start { IfOk result (λ m. m.state ≡ start (program_of m.image)) }
     ensures effort { IfOk result (λ m. m.effort ≡ effort) }

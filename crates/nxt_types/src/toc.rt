@@ -13,7 +13,7 @@ use std::alloc::Global;
 use std::marker::Model;
 
 impl Shape {
-    /// A list of such elements, each so many bytes behind the one before it.
+    /// A list of such elements, each `stride` bytes behind the one before it.
     pub fn list(alloc: Global, stride: u32, element: Shape) -> Result<Shape, NoMemory>
         ensures { IfOk result (λ s. tree s ≡ Array stride (tree element)) }
     {
@@ -122,7 +122,7 @@ impl Toc {
         self.entries.len() as u16
     }
 
-    /// The entry of that number, if there are so many.
+    /// The entry of that number, if there is one.
     pub fn entry(&self, i: u16) -> Option<TocEntry>
         ensures { result ≡ slice_get self.now.entries i }
     {

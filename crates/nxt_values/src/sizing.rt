@@ -42,7 +42,7 @@ impl Size {
         }
     }
 
-    /// With a list around, of so many elements, each so many bytes behind the one before it.
+    /// With a list around, of `count` elements, each `stride` bytes behind the one before it.
     pub fn in_list(self, count: u64, stride: u32) -> Size
         requires lists { self.lists + 1 < 2 ^ 64 }
         requires bytes { self.bytes + rounded (count * stride) < 2 ^ 64 }

@@ -150,7 +150,7 @@ pub fn behind(from: &[i64]) -> &[i64]
     if from.is_empty() { from } else { &from[1..] }
 }
 
-/// The numbers behind so many.
+/// The numbers behind the first `count`.
 pub fn behind_many(from: &[i64], count: u64) -> &[i64]
     ensures { result.now ≡ drop count from.now }
 {
@@ -161,7 +161,7 @@ pub fn behind_many(from: &[i64], count: u64) -> &[i64]
     }
 }
 
-// Takes a row for a list of so many zero elements, and stores its number in the leaf that stands there.
+// Takes a row for a list of `count` zero elements, and stores its number in the leaf that stands there.
 fn open_list(
     heap: &mut Heap,
     entries: &[TocEntry],
@@ -195,7 +195,7 @@ fn open_list(
     })
 }
 
-// Gives the list whose leaf stands there so many elements. It keeps its row.
+// Gives the list whose leaf stands there `count` elements. It keeps its row.
 fn reopen_list(
     heap: &mut Heap,
     entries: &[TocEntry],
@@ -219,7 +219,7 @@ fn reopen_list(
     if count > POOL_BYTES {
         return Err(Full);
     }
-    heap.is_sound();
+    heap.recall_sound();
     let count = count as u32;
     let bytes = count * stride;
     let row = list_row(heap, entries, list);

@@ -19,7 +19,7 @@ use Rattle.nxt_model.specs.Values.{Num}
 use Rattle.nxt_model.specs.Variables.{Reference, Plain, part_of, references, read}
 use Rattle.nxt_space.specs.Variables.{Variables, shape_by, shape_of}
 use Rattle.nxt_operands.proofs.Laws.Named.{IsNamed, IsPart, asked_parts, is_part, operand_shape, fit_by, statement_by}
-use Rattle.nxt_ops.specs.Ready.{is_a_number}
+use Rattle.nxt_ops.specs.Preparing.{is_a_number}
 use Rattle.nxt_machine.specs.Memory.{works_on_numbers}
 use Rattle.nxt_machine.specs.Numbers.{number_at, ports_at, set_motors_by}
 use Rattle.nxt_machine.specs.Inside.Statements.{operands_at}

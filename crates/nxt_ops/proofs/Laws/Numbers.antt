@@ -12,7 +12,7 @@ use Rattle.nxt_model.specs.Variables.{part_of, read, references}
 use Rattle.nxt_space.specs.Variables.{Variables, shape_by}
 use Rattle.nxt_operands.proofs.Laws.Named.{IsNamed, statement_by}
 use Rattle.nxt_ops.specs.Ops.{runs, statement_in, operands_in, two_of, one_of}
-use Rattle.nxt_ops.specs.Ready.{has_number, on_numbers, on_numbers_by, is_a_number}
+use Rattle.nxt_ops.specs.Preparing.{has_number, on_numbers, on_numbers_by, is_a_number}
 use Rattle.nxt_ops.proofs.Fitting.{two_fit, one_fit, brcmp_fit, mov_fit, set_fit, brtst_fit}
 use Rattle.nxt_ops.specs.declared.operator.Two.{Two}
 use Rattle.nxt_ops.specs.declared.operator.One.{One}

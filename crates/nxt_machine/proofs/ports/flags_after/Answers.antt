@@ -27,7 +27,7 @@ returns c =
     let s = c.args.space.now.vars in
     let args = (statement_of c.args.instr.now c.args.words.now).args in
     let m = motor_at c.args.port c.args.io.now in
-    let fifteen : length m ≡ 15 = c.is_sound.ensures.properties c.args.port c.requires.port in
+    let fifteen : length m ≡ 15 = c.recall_sound.ensures.properties c.args.port c.requires.port in
     sym (flags_done s args c.loop-k.k c.loop-k.flags (omega (arith, c.loop-k-test.false, c.operand_count-count.ensures.count)))
     ∙ c.loop-k.invariant.same
     ∙ sym (flags_of_pairs s (drop 1 args) m (omega (arith, fifteen)))

@@ -11,7 +11,7 @@ pub returns-clause-silent : goal.returns-clause-silent
 returns-clause-silent c none =
     let d = c.args.io.now in
     let port = c.args.port in
-    let motors = c.is_sound.ensures.motors in
+    let motors = c.recall_sound.ensures.motors in
     let there : port < length d.motors = let few = c.requires.port in omega (arith, few, motors) in
     let m = with_pairs c.args.space.now.vars (drop 1 (statement_of c.args.instr.now c.args.words.now).args) (motor_at port d) in
     let flags : c.flags.result ≡ 0 =

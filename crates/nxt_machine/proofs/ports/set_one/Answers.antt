@@ -83,5 +83,5 @@ returns-then-flags_after-ne0-clause-silent c none =
     let low : port < 3 = omega (arith, c.if-port-ge3.false) in
     let one : nat_lt port 3 ≡ true = grind (arith, nat_tests, c.if-port-ge3.false) in
     let quiet : (set_motor_by s pairs port d).lines ≡ [] = sym (ap (λ (x : Change). x.lines) (one_port port (set_motor_by s pairs) d one)) ∙ none in
-    let flags : c.flags_after.result ≡ 0 = c.flags_after.ensures ∙ silent_flags s pairs port d low c.is_sound.ensures.motors quiet in
+    let flags : c.flags_after.result ≡ 0 = c.flags_after.ensures ∙ silent_flags s pairs port d low c.recall_sound.ensures.motors quiet in
     absurd (c.if-flags_after-ne0.true flags)

@@ -28,7 +28,7 @@ call-requires-clause-inside c =
     let p = c.args.program.now in
     let below = named_below p c.requires.program c.args.i.now c.requires.call c.requires.at.0 c.requires.at.1 c.requires.at.2 refl refl in
     let plans = ap length c.requires.clumps.plans ∙ as_many (statements p.code.words) p.code.clumps p.code.dependents in
-    let each = c.is_sound.ensures in
+    let each = c.recall_sound.ensures in
     omega (arith, below, plans, each)
 
 pub set-requires : goal.set-requires

@@ -36,7 +36,7 @@ schedule-requires-clause-inside c =
     let p = c.args.program.now in
     let below = named_below p c.requires.program c.args.i.now c.in-Finclumpimmed.is c.requires.at.0 c.requires.at.1 c.requires.at.2 refl refl in
     let plans = ap length c.requires.clumps.plans ∙ as_many (statements p.code.words) p.code.clumps p.code.dependents in
-    let each = c.is_sound.ensures in
+    let each = c.recall_sound.ensures in
     omega (arith, below, plans, each)
 
 pub acquire-requires-clause-entry : goal.acquire-requires-clause-entry

@@ -54,7 +54,7 @@ returns-in-Setout-clause-done c =
     let old : Told = record { vars = s; devices = c.args.io.now; lines = c.args.out.now.lines } in
     let change : List ℕ → Change = λ ws. set_motors_by s (ports_at s i.a) (drop 1 (statement_of i ws).args) c.args.io.now in
     let same = c.words-words.ensures in
-    let done = devices_done t st old (change words) c.is_sound.ensures (setout_effect s i words c.args.io.now t c.in-Setout.is (ports_fit s i words c.in-Setout.is (fit_there c.args.program.now c.requires.program c.requires.at.0 c.args.placed.now c.requires.at.1)).named) in
+    let done = devices_done t st old (change words) c.recall_sound.ensures (setout_effect s i words c.args.io.now t c.in-Setout.is (ports_fit s i words c.in-Setout.is (fit_there c.args.program.now c.requires.program c.requires.at.0 c.args.placed.now c.requires.at.1)).named) in
     both_ok c.set_output.result c.set_output.ensures.devices c.set_output.ensures.lines
     (λ devices lines.
     subst
@@ -92,7 +92,7 @@ returns-in-Getout-clause-done c =
     let words = p.code.words in
     let d = c.args.io.now in
     let t = clock_of c.args.clock in
-    number_done p.space c.get_output.new.space d c.args.out.now.lines t (statement_of i words) i.a (part_of (named s.shapes i.b) ∷ Plain i.c ∷ []) (get_out (word (number_at s i.b)) i.c d) c.is_sound.ensures
+    number_done p.space c.get_output.new.space d c.args.out.now.lines t (statement_of i words) i.a (part_of (named s.shapes i.b) ∷ Plain i.c ∷ []) (get_out (word (number_at s i.b)) i.c d) c.recall_sound.ensures
     (output_fits s i words c.in-Getout.is (fit_there c.args.program.now c.requires.program c.requires.at.0 c.args.placed.now c.requires.at.1)) (getout_refers s i words d t c.in-Getout.is) (getout_effect s i words d t c.in-Getout.is) c.get_output.ensures.value
 
 pub returns-in-Getout-clause-program : goal.returns-in-Getout-clause-program
@@ -119,7 +119,7 @@ returns-in-Setin-clause-done c =
     (subst
     (λ (ls : List Line). IsDone t st old (record { vars = s; devices = after; lines = ls }))
     (append-nil c.args.out.now.lines)
-    (devices_done t st old (changed after []) c.is_sound.ensures (setin_effect s i words d t c.in-Setin.is)))
+    (devices_done t st old (changed after []) c.recall_sound.ensures (setin_effect s i words d t c.in-Setin.is)))
 
 pub get_input-requires-clause-number : goal.get_input-requires-clause-number
 get_input-requires-clause-number c =
@@ -137,7 +137,7 @@ returns-in-Getin-clause-done c =
     let words = p.code.words in
     let d = c.args.io.now in
     let t = clock_of c.args.clock in
-    number_done p.space c.get_input.new.space d c.args.out.now.lines t (statement_of i words) i.a (part_of (named s.shapes i.b) ∷ Plain i.c ∷ []) (get_in (word (number_at s i.b)) i.c d) c.is_sound.ensures
+    number_done p.space c.get_input.new.space d c.args.out.now.lines t (statement_of i words) i.a (part_of (named s.shapes i.b) ∷ Plain i.c ∷ []) (get_in (word (number_at s i.b)) i.c d) c.recall_sound.ensures
     (input_fits s i words c.in-Getin.is (fit_there c.args.program.now c.requires.program c.requires.at.0 c.args.placed.now c.requires.at.1)) (getin_refers s i words d t c.in-Getin.is) (getin_effect s i words d t c.in-Getin.is) c.get_input.ensures.value
 
 pub returns-in-Getin-clause-program : goal.returns-in-Getin-clause-program
@@ -159,7 +159,7 @@ returns-in-Gettick-clause-done c =
     let d = c.args.io.now in
     let t = clock_of c.args.clock in
     let now = to_z_pos w64 c.args.clock.now (let small = c.requires.clock in omega (arith, small)) in
-    number_done p.space c.set.new.self d c.args.out.now.lines t (statement_of i words) i.a [] (pos c.args.clock.now) c.is_sound.ensures
+    number_done p.space c.set.new.self d c.args.out.now.lines t (statement_of i words) i.a [] (pos c.args.clock.now) c.recall_sound.ensures
     (tick_fits s i words c.in-Gettick.is (fit_there c.args.program.now c.requires.program c.requires.at.0 c.args.placed.now c.requires.at.1)) (gettick_refers s i words d t c.in-Gettick.is) (gettick_effect s i words d t c.in-Gettick.is)
     (c.set.ensures.value ∙ ap (λ z. record s { values = with_value s i.a (stored (shape_of s i.a) (Num z)) }) now)
 

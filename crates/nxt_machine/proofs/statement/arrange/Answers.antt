@@ -30,7 +30,7 @@ run_array-requires c =
       runs = c.requires.on_lists;
       whole = whole_there p c.requires.program c.args.place x c.requires.at;
       shapes = c.requires.program.shapes;
-      sound = c.is_sound.ensures;
+      sound = c.recall_sound.ensures;
       fit = c.requires.program.fit c.args.place (x.word, statement_of x.instr p.code.words) (there p c.requires.program c.args.place x c.requires.at);
     })
 

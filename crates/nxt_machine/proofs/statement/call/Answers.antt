@@ -25,7 +25,7 @@ is_call p is place x at e =
     call_fits p.space.vars x.instr p.code.words e (is.fit place (x.word, statement_of x.instr p.code.words) (there p is place x at))
 
 pub syscall-requires : goal.syscall-requires
-syscall-requires c = can_call c.args.program.now.space.vars c.args.placed.now.instr c.is_sound.ensures (is_call c.args.program.now c.requires.program c.args.place c.args.placed.now c.requires.at c.requires.call)
+syscall-requires c = can_call c.args.program.now.space.vars c.args.placed.now.instr c.recall_sound.ensures (is_call c.args.program.now c.requires.program c.args.place c.args.placed.now c.requires.at c.requires.call)
 
 pub overflow_add-result : goal.overflow_add-result
 overflow_add-result c = let few = few_before c.args.program.now c.requires.program c.args.place c.args.placed.now c.requires.at in omega (arith, few)
@@ -67,17 +67,17 @@ stays_there p is place x at e sound new same left d t = called_stays p.space new
 pub returns-in-Ok-clause-stays : goal.returns-in-Ok-clause-stays
 returns-in-Ok-clause-stays c =
     let s = c.args.program.now.space in
-    stays_there c.args.program.now c.requires.program c.args.place c.args.placed.now c.requires.at c.requires.call c.is_sound.ensures c.syscall.new.space
+    stays_there c.args.program.now c.requires.program c.args.place c.args.placed.now c.requires.at c.requires.call c.recall_sound.ensures c.syscall.new.space
     (shapes_kept s.vars c.syscall.new.space.vars (kept_after Done _ s c.syscall.new.space (Ok tt) c.in-Ok.ensures.calls.0)) c.syscall.ensures.leaves c.args.io.now (clock_of c.args.clock)
 
 pub returns-in-Err-PoolPassed-clause-stays : goal.returns-in-Err-PoolPassed-clause-stays
 returns-in-Err-PoolPassed-clause-stays c =
     let s = c.args.program.now.space in
-    stays_there c.args.program.now c.requires.program c.args.place c.args.placed.now c.requires.at c.requires.call c.is_sound.ensures c.syscall.new.space
+    stays_there c.args.program.now c.requires.program c.args.place c.args.placed.now c.requires.at c.requires.call c.recall_sound.ensures c.syscall.new.space
     (shapes_kept s.vars c.syscall.new.space.vars (kept_after Done _ s c.syscall.new.space (Err _) c.in-Err-PoolPassed.ensures.calls.0)) c.syscall.ensures.leaves c.args.io.now (clock_of c.args.clock)
 
 pub returns-in-Err-NoMemory-clause-stays : goal.returns-in-Err-NoMemory-clause-stays
 returns-in-Err-NoMemory-clause-stays c =
     let s = c.args.program.now.space in
-    stays_there c.args.program.now c.requires.program c.args.place c.args.placed.now c.requires.at c.requires.call c.is_sound.ensures c.syscall.new.space
+    stays_there c.args.program.now c.requires.program c.args.place c.args.placed.now c.requires.at c.requires.call c.recall_sound.ensures c.syscall.new.space
     (shapes_kept s.vars c.syscall.new.space.vars (kept_after Done _ s c.syscall.new.space (Err _) c.in-Err-NoMemory.ensures.calls.0)) c.syscall.ensures.leaves c.args.io.now (clock_of c.args.clock)

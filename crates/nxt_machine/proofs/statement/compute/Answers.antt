@@ -27,7 +27,7 @@ run_op-requires c =
       runs = c.requires.computes;
       entries = c.requires.program.entries;
       shapes = c.requires.program.shapes;
-      sound = c.is_sound.ensures;
+      sound = c.recall_sound.ensures;
       fit = c.requires.program.fit c.args.place (c.args.placed.now.word, statement_in c.args.placed.now.instr) (statement_there p c.requires.program c.args.place c.args.placed.now c.requires.at c.requires.computes);
     }
 
@@ -66,7 +66,7 @@ returns-in-Err-PoolPassed-clause-did c d lines t =
     subst
     (IsPassed t (statement_of c.args.placed.now.instr p.code.words) old new)
     (sym c.in-Err-PoolPassed.bytes-is)
-    (refused p.space c.run_op.new.space p.code.words d lines t c.args.place c.args.placed.now.word c.args.placed.now.instr c.requires.computes c.in-Err-PoolPassed.bytes c.is_sound.ensures
+    (refused p.space c.run_op.new.space p.code.words d lines t c.args.place c.args.placed.now.word c.args.placed.now.instr c.requires.computes c.in-Err-PoolPassed.bytes c.recall_sound.ensures
     (subst
     (λ e. Tells p.space c.run_op.new.space p.code.words d lines t c.args.place c.args.placed.now.word c.args.placed.now.instr c.requires.computes (Err e))
     c.in-Err-PoolPassed.field-0-is

@@ -5,7 +5,7 @@ use Rattle.std.proofs.lemmas.Bool.{and_parts}
 use Rattle.nxt_types.specs.OperandRules.{AreFit}
 use Rattle.nxt_types.specs.Statements.{statement_of}
 use Rattle.nxt_ops.specs.Ops.{runs as computes}
-use Rattle.nxt_ops.specs.Ready.{is_a_number}
+use Rattle.nxt_ops.specs.Preparing.{is_a_number}
 use Rattle.nxt_ops.proofs.Laws.{same_statement}
 use Rattle.nxt_ops.proofs.Laws.Numbers.{given_numbers}
 use Rattle.nxt_machine.specs.Memory.{is_of_devices}

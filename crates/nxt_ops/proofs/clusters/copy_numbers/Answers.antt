@@ -66,5 +66,5 @@ returns-clause-copied c did =
     let to = is_cluster s.vars c.args.dest n c.requires.dest c.in-Some.ensures in
     let from = is_cluster s.vars c.args.source n c.requires.source (from_cluster (shape_of s.vars c.args.dest) (shape_of s.vars c.args.source) n c.in-Some.ensures c.requires.fit) in
     let all : c.loop-k.k ≡ n = omega (arith, c.loop-k-test.false, c.loop-k.auto.k-end) in
-    copied_does s c.loop-k.space (with_value s.vars c.args.dest (stored (shape_of s.vars c.args.dest) (value_of s.vars c.args.source))) c.is_sound.ensures
+    copied_does s c.loop-k.space (with_value s.vars c.args.dest (stored (shape_of s.vars c.args.dest) (value_of s.vars c.args.source))) c.recall_sound.ensures
     (copies_all s.vars c.args.dest c.args.source n to from c.requires.sound c.loop-k.space.vars (subst (λ k. Copies s.vars c.args.dest c.args.source c.loop-k.space.vars k) all c.loop-k.invariant.copies))

@@ -28,7 +28,7 @@ returns c =
     let went = not_passed c.fill_members-filled.result pool_size (needs_for_all h ss start) (footprint g ≤ pool_size) (λ rest. FillsAll c.entries.result.now h g ss 0 Static 0 start rest.now) (start_fits toc ss h start c.requires) e.pool e.passed e.filled in
     let filled = subst (λ table. FillsAll table h g ss 0 Static 0 start went.1.0.now) c.entries.ensures went.1.1 in
     let some : 1 ≤ length g.by_row = omega (arith, c.row_count-rows.ensures.rows, c.row_count-rows.ensures.some) in
-    start_stored toc ss h g start went.1.0.now c.requires filled went.0 some c.is_sound.ensures.first
+    start_stored toc ss h g start went.1.0.now c.requires filled went.0 some c.recall_sound.ensures.first
 
 -- what holds of an error holds where there is no answer
 of_error : {T E : Type 0} (r : Result T E) (P : Type 0) → is_ok r ≡ false → OnErr r P → P

@@ -59,7 +59,7 @@ returns-clause-stores c =
           let is = is_variable toc h i s c.requires.stand w.in-Some.ensures in
           let g = w.put.new.heap.lists in
           let some : 1 ≤ length g.by_row = omega (arith, c.row_count-rows.ensures.some, c.row_count-rows.ensures.rows, ap (λ (f : HeapViews). length f.lists.by_row) w.heap-is) in
-          let first : list_at g 0 ≡ None = ap (λ (f : HeapViews). list_at f.lists 0) (sym w.heap-is) ∙ c.is_sound.ensures.first in
+          let first : list_at g 0 ≡ None = ap (λ (f : HeapViews). list_at f.lists 0) (sym w.heap-is) ∙ c.recall_sound.ensures.first in
           subst
           (λ (f : HeapViews). Stores toc h f.lists (with_stored toc h i zs))
           (sym w.heap-is)

@@ -31,7 +31,7 @@ set-requires c =
     let s = c.args.space.now.vars in
     let stores = c.in_ok-store_bytes.ensures.stores at_start in
     record {
-      group = same_cluster s c.store_bytes.new.space.vars _ ReadMessage c.args.cluster stores.1 c.is_sound.ensures c.requires.cluster;
+      group = same_cluster s c.store_bytes.new.space.vars _ ReadMessage c.args.cluster stores.1 c.recall_sound.ensures c.requires.cluster;
       field = refl;
     }
 

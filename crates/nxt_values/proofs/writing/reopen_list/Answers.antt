@@ -17,7 +17,7 @@ returns-clause-opened c =
       is = refl;
       small = omega (arith, mul-le c.args.count c.args.stride 32768 65535 (omega arith) (omega arith));
       opened = subst (λ r. IsOpened table (closed table h list) c.resize.new.self.lists list.entry list.region list.base r c.args.stride c.args.count) (sym row)
-          (list_reopened table h c.resize.new.self.lists list c.args.stride c.args.count c.is_sound.ensures.first c.requires.region c.requires.has
+          (list_reopened table h c.resize.new.self.lists list c.args.stride c.args.count c.recall_sound.ensures.first c.requires.region c.requires.has
           (c.in_ok-resize.ensures.ok ∙ ap (λ r. with_length h r (c.args.count * c.args.stride)) row));
     }
 

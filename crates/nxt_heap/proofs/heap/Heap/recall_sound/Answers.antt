@@ -7,7 +7,7 @@ use Rattle.nxt_heap.specs.Dumps.{HoldHeap}
 use Rattle.nxt_heap.proofs.Dumped.{pool_holds}
 use Rattle.nxt_heap.proofs.ListsKept.{lists_in-at, list_in-first}
 use Rattle.nxt_heap.proofs.Seen.{length_static}
-use Rattle.nxt_heap.proofs.heap.Heap.is_sound.Goals as goal
+use Rattle.nxt_heap.proofs.heap.Heap.recall_sound.Goals as goal
 
 pub returns-clause-first : goal.returns-clause-first
 returns-clause-first c =
