@@ -2,11 +2,11 @@
 use Rattle.std.proofs.Common.{ℕ, ◌%◌, List, ap, sym, ◌∙◌, arith}
 use Rattle.nxt_compact.specs.Pools.{IsSound}
 use Rattle.nxt_compact.proofs.Laws.Going.{bytes_moved}
-use Rattle.nxt_heap.specs.declared.blocks.Places.{Places}
+use Rattle.nxt_heap.specs.declared.blocks.BlockState.{BlockState}
 use Rattle.nxt_heap.specs.Inside.Pool.{AreBlocks, BlocksMove, IsListRow, HasLength, with_length_in}
 use Rattle.nxt_heap.proofs.AfterMoves.{moved_count, moved_stride, lists_moved}
 
-module _ (old fronts mid fronts' : List ℕ) (p q : Places) (to : ℕ → ℕ) (row bytes : ℕ) (b : AreBlocks old fronts p) (m : BlocksMove old fronts mid fronts' p q to) (l : IsListRow old p.table row bytes) where
+module _ (old fronts mid fronts' : List ℕ) (p q : BlockState) (to : ℕ → ℕ) (row bytes : ℕ) (b : AreBlocks old fronts p) (m : BlocksMove old fronts mid fronts' p q to) (l : IsListRow old p.table row bytes) where
   -- the row is that of a list still
   pub still_list : IsListRow mid q.table row bytes
   still_list =
@@ -18,7 +18,7 @@ module _ (old fronts mid fronts' : List ℕ) (p q : Places) (to : ℕ → ℕ) (
         whole = ap (λ s. bytes % s) stride ∙ l.whole;
       }
 
-  pub then_length : (new fronts'' : List ℕ) (r : Places) → HasLength mid new fronts'' q r row bytes → HasLength old new fronts'' p r row bytes
+  pub then_length : (new fronts'' : List ℕ) (r : BlockState) → HasLength mid new fronts'' q r row bytes → HasLength old new fronts'' p r row bytes
   then_length new fronts'' r h =
       let sound : IsSound mid q.table p.base = rw (sym m.base) m.blocks.is_pool.sound in
       record {

@@ -12,7 +12,7 @@ use Rattle.nxt_compact.proofs.Laws.Going.{first_full}
 use Rattle.nxt_compact.proofs.Laws.Opening.{bytes_before, before_next, before_all}
 use Rattle.nxt_compact.proofs.Laws.Shifted.{bytes_of_table}
 use Rattle.nxt_heap.specs.Lists.{ByteList}
-use Rattle.nxt_heap.specs.declared.blocks.Places.{Places}
+use Rattle.nxt_heap.specs.declared.blocks.BlockState.{BlockState}
 use Rattle.nxt_heap.specs.Inside.Pool.{row_bytes, list_in, lists_in, IsPool, IsEnd, AreFronts, AreBlocks}
 use Rattle.nxt_heap.proofs.Begins.{SameOthers, no_front_before, fronts_kept, no_front_then, table_inside}
 use Rattle.nxt_heap.proofs.ListsKept.{list_in-first, list_in-moved, lists_in-set}
@@ -218,7 +218,7 @@ taken_free old new table base row q d front some others above below = elim (case
 
 -- ---- the places stay as they were
 
-pub swapped_blocks : (old new : List ℕ) (fronts : List ℕ) (q : Places) (row : ℕ) → AreBlocks old fronts q → Swaps old new q.table row → AreBlocks new fronts q
+pub swapped_blocks : (old new : List ℕ) (fronts : List ℕ) (q : BlockState) (row : ℕ) → AreBlocks old fronts q → Swaps old new q.table row → AreBlocks new fronts q
 swapped_blocks old new fronts q row b s = record {
   is_pool = swapped_pool old new q.table q.base row b.is_pool s;
   word = b.word;

@@ -11,7 +11,7 @@ use Rattle.nxt_types.specs.Pool.{round4, pool_size}
 use Rattle.nxt_rows.specs.Rows.{dope_row, row_count}
 use Rattle.nxt_compact.specs.Pools.{block_bytes, IsSound}
 use Rattle.nxt_compact.proofs.Laws.Opening.{before_most}
-use Rattle.nxt_heap.specs.declared.blocks.Places.{Places}
+use Rattle.nxt_heap.specs.declared.blocks.BlockState.{BlockState}
 use Rattle.nxt_heap.specs.Lists.{ByteList, Lists, list_at, block_of, footprint, with_list, with_length, of_length, stride_at, bytes_at, with_bytes, IsFree, any_free, with_free, with_free_row, empty_list, stride_of, bytes_of, with_these}
 use Rattle.nxt_heap.specs.Inside.Pool.{row_bytes, lists_in, state_of, AreBlocks, IsHeap, BlocksMove, HasLength, Frees, Takes, Stores}
 use Rattle.nxt_heap.proofs.AfterMoves.{lists_moved}
@@ -24,21 +24,21 @@ use Rattle.nxt_heap.proofs.Settled.{total_below, end_inside}
 use Rattle.nxt_heap.proofs.Seen.{Lives, no_list, length_bytes, static_kept, footprint_state}
 
 -- the lists of a pool behind so many static bytes
-abbrev pub shown : ℕ → List ℕ → Places → Lists
+abbrev pub shown : ℕ → List ℕ → BlockState → Lists
 shown static_size pool p = state_of static_size (record { bytes = pool; table = p.table })
 
 -- ---- a heap stays one
 
-pub still_heap : (static_size : ℕ) (old new fronts_old fronts_new : List ℕ) (p q : Places) → IsHeap static_size p old fronts_old → AreBlocks new fronts_new q → q.base ≡ p.base → IsHeap static_size q new fronts_new
+pub still_heap : (static_size : ℕ) (old new fronts_old fronts_new : List ℕ) (p q : BlockState) → IsHeap static_size p old fronts_old → AreBlocks new fronts_new q → q.base ≡ p.base → IsHeap static_size q new fronts_new
 still_heap static_size old new fronts_old fronts_new p q h blocks base = record { blocks = blocks; base_is = base ∙ h.base_is }
 
-same_static : (static_size : ℕ) (old new fronts_old fronts_new : List ℕ) (p q : Places) → IsHeap static_size p old fronts_old → AreBlocks new fronts_new q → ((k : ℕ) → k < p.base → get_or new k 0 ≡ get_or old k 0) → take static_size new ≡ take static_size old
+same_static : (static_size : ℕ) (old new fronts_old fronts_new : List ℕ) (p q : BlockState) → IsHeap static_size p old fronts_old → AreBlocks new fronts_new q → ((k : ℕ) → k < p.base → get_or new k 0 ≡ get_or old k 0) → take static_size new ≡ take static_size old
 same_static static_size old new fronts_old fronts_new p q h blocks below =
     static_kept old new fronts_old static_size p h (blocks.is_pool.size ∙ sym h.blocks.is_pool.size) below
 
 -- ---- other places
 
-pub after_moves : (static_size : ℕ) (old new fronts_old fronts_new : List ℕ) (p q : Places) (to : ℕ → ℕ) → IsHeap static_size p old fronts_old → BlocksMove old fronts_old new fronts_new p q to → shown static_size new q ≡ shown static_size old p
+pub after_moves : (static_size : ℕ) (old new fronts_old fronts_new : List ℕ) (p q : BlockState) (to : ℕ → ℕ) → IsHeap static_size p old fronts_old → BlocksMove old fronts_old new fronts_new p q to → shown static_size new q ≡ shown static_size old p
 after_moves static_size old new fronts_old fronts_new p q to h m =
     let is_pool = h.blocks.is_pool in
     let sound : IsSound new q.table p.base = subst (λ b. IsSound new q.table b) m.base m.blocks.is_pool.sound in
@@ -46,15 +46,15 @@ after_moves static_size old new fronts_old fronts_new p q to h m =
 
 -- ---- another number of bytes
 
-pub after_length : (static_size : ℕ) (old new fronts_old fronts_new : List ℕ) (p q : Places) (row bytes : ℕ) → IsHeap static_size p old fronts_old → HasLength old new fronts_new p q row bytes → shown static_size new q ≡ with_length (shown static_size old p) row bytes
+pub after_length : (static_size : ℕ) (old new fronts_old fronts_new : List ℕ) (p q : BlockState) (row bytes : ℕ) → IsHeap static_size p old fronts_old → HasLength old new fronts_new p q row bytes → shown static_size new q ≡ with_length (shown static_size old p) row bytes
 after_length static_size old new fronts_old fronts_new p q row bytes h l =
     rw (same_static static_size old new fronts_old fronts_new p q h l.blocks l.below, l.lists) refl
 
 -- the bytes of a living row
-pub size_lived : (static_size : ℕ) (pool fronts : List ℕ) (p : Places) (row : ℕ) → IsHeap static_size p pool fronts → Lives pool p.table row → length (bytes_at (shown static_size pool p) row) ≡ row_bytes (dope_row pool p.table row)
+pub size_lived : (static_size : ℕ) (pool fronts : List ℕ) (p : BlockState) (row : ℕ) → IsHeap static_size p pool fronts → Lives pool p.table row → length (bytes_at (shown static_size pool p) row) ≡ row_bytes (dope_row pool p.table row)
 size_lived static_size pool fronts p row h l = ap (λ o. length (bytes_of o)) l.is ∙ length_bytes pool p.table p.base row h.blocks.is_pool l.within
 
-pub footprint_length : (static_size : ℕ) (pool fronts : List ℕ) (p : Places) (row bytes : ℕ) → IsHeap static_size p pool fronts → Lives pool p.table row
+pub footprint_length : (static_size : ℕ) (pool fronts : List ℕ) (p : BlockState) (row bytes : ℕ) → IsHeap static_size p pool fronts → Lives pool p.table row
     → footprint (with_length (shown static_size pool p) row bytes) + block_bytes (dope_row pool p.table row) ≡ p.footprint + round4 bytes
 footprint_length static_size pool fronts p row bytes h l =
     let s = shown static_size pool p in
@@ -66,29 +66,29 @@ footprint_length static_size pool fronts p row bytes h l =
     omega (arith, whole, had, has, footprint_state static_size pool fronts p h)
 
 -- what a heap takes fits the pool
-pub footprint_inside : (static_size : ℕ) (pool fronts : List ℕ) (p : Places) → IsHeap static_size p pool fronts → p.footprint ≤ pool_size
+pub footprint_inside : (static_size : ℕ) (pool fronts : List ℕ) (p : BlockState) → IsHeap static_size p pool fronts → p.footprint ≤ pool_size
 footprint_inside static_size pool fronts p h =
     let b = h.blocks in
     omega (arith, b.footprint_is, total_below pool p.table p.base p.end b.is_pool b.end_is, end_inside pool p.table p.base p.end b.is_pool b.end_is)
 
 -- a row's block is a part of it
-pub block_inside : (static_size : ℕ) (pool fronts : List ℕ) (p : Places) (row : ℕ) → IsHeap static_size p pool fronts → row < row_count pool p.table → block_bytes (dope_row pool p.table row) ≤ p.footprint
+pub block_inside : (static_size : ℕ) (pool fronts : List ℕ) (p : BlockState) (row : ℕ) → IsHeap static_size p pool fronts → row < row_count pool p.table → block_bytes (dope_row pool p.table row) ≤ p.footprint
 block_inside static_size pool fronts p row h within = omega (arith, h.blocks.footprint_is, before_most pool p.table row within)
 
 -- ---- other bytes
 
-pub after_bytes : (static_size : ℕ) (old new fronts : List ℕ) (p : Places) (row at : ℕ) (bytes : List ℕ) → IsHeap static_size p old fronts → Lives old p.table row → Stores old new p.table row at bytes
+pub after_bytes : (static_size : ℕ) (old new fronts : List ℕ) (p : BlockState) (row at : ℕ) (bytes : List ℕ) → IsHeap static_size p old fronts → Lives old p.table row → Stores old new p.table row at bytes
     → shown static_size new p ≡ with_bytes (shown static_size old p) row at bytes
 after_bytes static_size old new fronts p row at bytes h l s =
     rw (same_static static_size old new fronts fronts p p h (s.blocks fronts p refl h.blocks) (s.below fronts p refl h.blocks), s.lists, l.is) refl
 
 -- ---- a row taken, added or freed
 
-pub after_free : (static_size : ℕ) (old new fronts_old fronts_new : List ℕ) (p q : Places) (row : ℕ) → IsHeap static_size p old fronts_old → Frees old new fronts_new p q row → shown static_size new q ≡ with_list (shown static_size old p) row None
+pub after_free : (static_size : ℕ) (old new fronts_old fronts_new : List ℕ) (p q : BlockState) (row : ℕ) → IsHeap static_size p old fronts_old → Frees old new fronts_new p q row → shown static_size new q ≡ with_list (shown static_size old p) row None
 after_free static_size old new fronts_old fronts_new p q row h f =
     rw (same_static static_size old new fronts_old fronts_new p q h f.blocks f.below, f.lists) refl
 
-pub after_taken : (static_size : ℕ) (old new fronts_old fronts_new : List ℕ) (p q : Places) (stride row : ℕ) → IsHeap static_size p old fronts_old → Takes old new fronts_new p q stride row
+pub after_taken : (static_size : ℕ) (old new fronts_old fronts_new : List ℕ) (p q : BlockState) (stride row : ℕ) → IsHeap static_size p old fronts_old → Takes old new fronts_new p q stride row
     → shown static_size new q ≡ with_list (with_free_row (shown static_size old p)) row (empty_list stride)
 after_taken static_size old new fronts_old fronts_new p q stride row h t =
     rw (same_static static_size old new fronts_old fronts_new p q h t.blocks t.below, t.lists) refl
@@ -97,7 +97,7 @@ pub footprint_taken : (h : Lists) (row stride : ℕ) → IsFree h.by_row row →
 footprint_taken h row stride f = omega (arith, footprint-with_list h row (empty_list stride) f.within, ap block_of f.empty)
 
 -- the lists where a row was taken fit the pool
-pub taken_fits : (static_size : ℕ) (old new fronts_old fronts_new : List ℕ) (p q : Places) (stride row : ℕ) → IsHeap static_size p old fronts_old → Takes old new fronts_new p q stride row
+pub taken_fits : (static_size : ℕ) (old new fronts_old fronts_new : List ℕ) (p q : BlockState) (stride row : ℕ) → IsHeap static_size p old fronts_old → Takes old new fronts_new p q stride row
     → footprint (with_free_row (shown static_size old p)) ≤ pool_size
 taken_fits static_size old new fronts_old fronts_new p q stride row h t =
     let then = still_heap static_size old new fronts_old fronts_new p q h t.blocks t.base in
@@ -109,7 +109,7 @@ taken_fits static_size old new fronts_old fronts_new p q stride row h t =
       footprint_inside static_size new fronts_new q then,
     )
 
-pub footprint_more : (static_size : ℕ) (pool fronts : List ℕ) (p : Places) → IsHeap static_size p pool fronts → any_free (lists_in pool p.table) ≡ false
+pub footprint_more : (static_size : ℕ) (pool fronts : List ℕ) (p : BlockState) → IsHeap static_size p pool fronts → any_free (lists_in pool p.table) ≡ false
     → footprint (with_free_row (shown static_size pool p)) + round4 (10 * row_count pool p.table) ≡ p.footprint + round4 (10 * (row_count pool p.table + 1))
 footprint_more static_size pool fronts p h full =
     let xs = lists_in pool p.table in

@@ -16,7 +16,7 @@ use Rattle.nxt_compact.specs.Pools.{block_bytes, block_of, blocks_in, IsFull}
 use Rattle.nxt_compact.proofs.Laws.Going.{first_full}
 use Rattle.nxt_compact.proofs.Laws.InPool.{full_in, in_full}
 use Rattle.nxt_compact.proofs.Laws.Shifted.{bytes_of_table}
-use Rattle.nxt_heap.specs.declared.blocks.Places.{Places}
+use Rattle.nxt_heap.specs.declared.blocks.BlockState.{BlockState}
 use Rattle.nxt_heap.specs.Dumps.{row_of, rows_of, IsRowOf, IsFilled, row_block, table_block, HoldHeap}
 use Rattle.nxt_heap.specs.Lists.{ByteList}
 use Rattle.nxt_heap.specs.Inside.Pool.{row_bytes, list_in, lists_in, state_of, Shows, IsPool, IsEnd, IsHeap}
@@ -122,11 +122,11 @@ record IsAs (row : DopeRow) (same : Row) : Type 0 where
   count : row.count ≡ same.count
 
 -- the last block ends in the pool
-pub end_below : (static_size : ℕ) (pool fronts : List ℕ) (q : Places) → IsHeap static_size q pool fronts → q.end ≤ length pool
+pub end_below : (static_size : ℕ) (pool fronts : List ℕ) (q : BlockState) → IsHeap static_size q pool fronts → q.end ≤ length pool
 end_below static_size pool fronts q h = omega (arith, end_inside pool q.table q.base q.end h.blocks.is_pool h.blocks.end_is, h.blocks.is_pool.size)
 
 -- so many bytes of the pool, with all blocks
-module _ (static_size : ℕ) (pool fronts : List ℕ) (q : Places) (h : IsHeap static_size q pool fronts) (n : ℕ) (past : q.end ≤ n) (inside : n ≤ length pool) where
+module _ (static_size : ℕ) (pool fronts : List ℕ) (q : BlockState) (h : IsHeap static_size q pool fronts) (n : ℕ) (past : q.end ≤ n) (inside : n ≤ length pool) where
   abbrev front : List ℕ
   front = take n pool
 
@@ -255,7 +255,7 @@ module _ (static_size : ℕ) (pool fronts : List ℕ) (q : Places) (h : IsHeap s
   }
 
 -- the whole pool holds it too
-pub pool_holds : (static_size : ℕ) (pool fronts : List ℕ) (q : Places) → IsHeap static_size q pool fronts → HoldHeap pool q.table (state_of static_size (record { bytes = pool; table = q.table }))
+pub pool_holds : (static_size : ℕ) (pool fronts : List ℕ) (q : BlockState) → IsHeap static_size q pool fronts → HoldHeap pool q.table (state_of static_size (record { bytes = pool; table = q.table }))
 pool_holds static_size pool fronts q h =
     let end : q.end ≤ length pool = end_below static_size pool fronts q h in
     subst (λ bytes. HoldHeap bytes q.table (state_of static_size (record { bytes = pool; table = q.table }))) (take_all (length pool) pool (omega arith))

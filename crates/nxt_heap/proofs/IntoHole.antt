@@ -6,7 +6,7 @@ use Rattle.nxt_compact.specs.Pools.{block_bytes, IsFull, IsSound, Moves}
 use Rattle.nxt_compact.specs.Steps.{IsMovable, moved_to}
 use Rattle.nxt_compact.proofs.Laws.Going.{first_full, full_before, moved_full, place_moved, bytes_moved}
 use Rattle.nxt_compact.proofs.Laws.Moving.{moved_here, moved_there}
-use Rattle.nxt_heap.specs.declared.blocks.Places.{Places}
+use Rattle.nxt_heap.specs.declared.blocks.BlockState.{BlockState}
 use Rattle.nxt_heap.specs.Inside.Pool.{IsPool, IsHole, IsOpenTo, IsEnd, IsEndBelow, AreFronts, HasMoved, no_row}
 use Rattle.nxt_heap.proofs.Begins.{SameOthers, drop_front, fronts_kept, put_front}
 use Rattle.nxt_heap.proofs.Settled.{end_inside}
@@ -114,10 +114,10 @@ module _ (old : List ℕ) (table base row place : ℕ) (p : IsPool old table bas
         let others = fronts_kept old new table table' one row (drop_front old table base fronts row p fs full) into_others in
         rw (sym into_place) (put_front new table' base one row into_pool others into_full)
 
-    pub into_moved : (q : Places) → q.table ≡ table' → IsEnd old table q.end → HasMoved new q row (dope_row old table row).place
+    pub into_moved : (q : BlockState) → q.table ≡ table' → IsEnd old table q.end → HasMoved new q row (dope_row old table row).place
     into_moved q is e = rw is (has_moved q e)
       where
-        has_moved : (q : Places) → IsEnd old table q.end → HasMoved new (record q { table = table' }) row (dope_row old table row).place
+        has_moved : (q : BlockState) → IsEnd old table q.end → HasMoved new (record q { table = table' }) row (dope_row old table row).place
         has_moved q e = record {
           full = into_full;
           others = λ r f other. let g = into_others.before r other f in omega (arith, e.most r g, into_others.place r other g, into_others.bytes r other g);
@@ -137,7 +137,7 @@ module _ (old : List ℕ) (table base row place : ℕ) (p : IsPool old table bas
 
 -- ---- where the last block then ends
 
-module _ (pool : List ℕ) (q : Places) (row from : ℕ) (m : HasMoved pool q row from) where
+module _ (pool : List ℕ) (q : BlockState) (row from : ℕ) (m : HasMoved pool q row from) where
   pub ends_there : (end : ℕ) → end ≡ (dope_row pool q.table row).place + block_bytes (dope_row pool q.table row) → q.end ≤ end → IsEnd pool q.table end
   ends_there end is high = record {
     most = λ r f. elim (cases_eq r row) [

@@ -16,7 +16,7 @@ use Rattle.nxt_heap.specs.Moves.{holds_behind, RowsStay, MovesAtNeed}
 use Rattle.nxt_heap.proofs.Laws.Moves.{blocks_stay}
 use Rattle.nxt_heap.specs.Inside.Pool.{row_bytes, pool_at, IsPool, IsHole, IsFit, IsRoom, BlocksMove, MakesRoom, IsListRow, Relists, AddsRow}
 use Rattle.nxt_compact.proofs.Laws.Opening.{all_pack}
-use Rattle.nxt_heap.specs.declared.blocks.Places.{Places}
+use Rattle.nxt_heap.specs.declared.blocks.BlockState.{BlockState}
 use Rattle.nxt_heap.proofs.Dumped.{some_bytes}
 use Rattle.nxt_heap.proofs.IntoHole.{hole_open, into_others}
 use Rattle.nxt_heap.proofs.Rooms.{smaller_hole}
@@ -26,7 +26,7 @@ use Rattle.nxt_heap.proofs.Open.{open_is, lowest_fit, behind_true, empty_behind}
 -- ---- room that is made
 
 -- nothing moves
-pub stays : (pool : List ℕ) (q : Places) (row bytes : ℕ) → IsPool pool q.table q.base → IsFull pool q.table row → IsRoom pool q.table q.base row (dope_row pool q.table row).place bytes → MakesRoom pool pool q q row bytes (dope_row pool q.table row).place
+pub stays : (pool : List ℕ) (q : BlockState) (row bytes : ℕ) → IsPool pool q.table q.base → IsFull pool q.table row → IsRoom pool q.table q.base row (dope_row pool q.table row).place bytes → MakesRoom pool pool q q row bytes (dope_row pool q.table row).place
 stays pool q row bytes p full room = record {
   behind = λ e. ((λ r f other. refl), refl);
   hole = λ place none lowest. absurd (false≢true (sym none ∙ behind_true pool q.table q.base row bytes p full room));
@@ -34,7 +34,7 @@ stays pool q row bytes p full room = record {
 }
 
 -- a row without a block gets a hole
-pub takes_hole : (pool : List ℕ) (q : Places) (row bytes at : ℕ) → IsPool pool q.table q.base → row < row_count pool q.table → block_bytes (dope_row pool q.table row) ≡ 0 → IsFit pool q.table q.base bytes at → MakesRoom pool pool q q row bytes at
+pub takes_hole : (pool : List ℕ) (q : BlockState) (row bytes at : ℕ) → IsPool pool q.table q.base → row < row_count pool q.table → block_bytes (dope_row pool q.table row) ≡ 0 → IsFit pool q.table q.base bytes at → MakesRoom pool pool q q row bytes at
 takes_hole pool q row bytes at p within none f = record {
   behind = λ e. absurd (false≢true (sym (empty_behind pool q.table q.base row bytes p within none) ∙ e));
   hole = λ place never lowest. ((λ r g other. refl), lowest_fit pool q.table q.base bytes at place p.size f lowest);
@@ -42,7 +42,7 @@ takes_hole pool q row bytes at p within none f = record {
 }
 
 -- or stands above all others, where no hole holds it
-pub settles : (old new : List ℕ) (p q : Places) (row bytes at settled : ℕ) → IsPool old p.table p.base → row < row_count old p.table → block_bytes (dope_row old p.table row) ≡ 0 → ((place : ℕ) → p.base ≤ place → IsHole old p.table place bytes → ⊥)
+pub settles : (old new : List ℕ) (p q : BlockState) (row bytes at settled : ℕ) → IsPool old p.table p.base → row < row_count old p.table → block_bytes (dope_row old p.table row) ≡ 0 → ((place : ℕ) → p.base ≤ place → IsHole old p.table place bytes → ⊥)
     → Compacts p.base 65535 old new p.table q.table settled → MakesRoom old new p q row bytes at
 settles old new p q row bytes at settled is within none never c =
     let xs = blocks_in old p.table in
@@ -60,7 +60,7 @@ settles old new p q row bytes at settled is within none never c =
     }
 
 -- a block moves into a hole
-pub moves_into : (old new : List ℕ) (p q : Places) (row bytes at : ℕ) → IsPool old p.table p.base → IsFull old p.table row → block_bytes (dope_row old p.table row) ≤ bytes → holds_behind p.base (record { bytes = old; table = p.table }) row bytes ≡ false → IsFit old p.table p.base bytes at
+pub moves_into : (old new : List ℕ) (p q : BlockState) (row bytes at : ℕ) → IsPool old p.table p.base → IsFull old p.table row → block_bytes (dope_row old p.table row) ≤ bytes → holds_behind p.base (record { bytes = old; table = p.table }) row bytes ≡ false → IsFit old p.table p.base bytes at
     → Moves p.base (moved_to (dope_row old p.table row).place at) old new p.table q.table → MakesRoom old new p q row bytes at
 moves_into old new p q row bytes at is full long never f m =
     let hole = hole_open old p.table row at (block_bytes (dope_row old p.table row)) (smaller_hole old p.table at bytes (block_bytes (dope_row old p.table row)) long f.hole) in
@@ -72,7 +72,7 @@ moves_into old new p q row bytes at is full long never f m =
     }
 
 -- what stands above a block moves up
-pub slides : (old new : List ℕ) (p q : Places) (row bytes at more : ℕ) → IsPool old p.table p.base → holds_behind p.base (record { bytes = old; table = p.table }) row bytes ≡ false → ((place : ℕ) → p.base ≤ place → IsHole old p.table place bytes → ⊥)
+pub slides : (old new : List ℕ) (p q : BlockState) (row bytes at more : ℕ) → IsPool old p.table p.base → holds_behind p.base (record { bytes = old; table = p.table }) row bytes ≡ false → ((place : ℕ) → p.base ≤ place → IsHole old p.table place bytes → ⊥)
     → Moves p.base (slid_in old p.table p.base row more) old new p.table q.table → MakesRoom old new p q row bytes at
 slides old new p q row bytes at more is not never m =
     let xs = blocks_in old p.table in
@@ -92,7 +92,7 @@ slides old new p q row bytes at more is not never m =
 
 -- ---- once the row is written
 
-pub then_need : (old fronts mid fronts' new : List ℕ) (p q : Places) (to : ℕ → ℕ) (table row bytes place : ℕ) → IsPool old p.table p.base → BlocksMove old fronts mid fronts' p q to → MakesRoom old mid p q row bytes place
+pub then_need : (old fronts mid fronts' new : List ℕ) (p q : BlockState) (to : ℕ → ℕ) (table row bytes place : ℕ) → IsPool old p.table p.base → BlocksMove old fronts mid fronts' p q to → MakesRoom old mid p q row bytes place
     → row_count mid q.table ≤ row_count new table → IsFull new table row → (dope_row new table row).place ≡ place
     → ((r : ℕ) → r < row_count mid q.table → r ≢ row → dope_row new table r ≡ dope_row mid q.table r)
     → MovesAtNeed p.base (pool_at old p) (record { bytes = new; table = table }) row bytes
@@ -108,7 +108,7 @@ then_need old fronts mid fronts' new p q to table row bytes place is b m count f
     }
 
 -- a list that has bytes
-pub relisted : (old fronts mid fronts' new : List ℕ) (p q : Places) (to : ℕ → ℕ) (row bytes place room : ℕ) → IsPool old p.table p.base → BlocksMove old fronts mid fronts' p q to → IsListRow mid q.table row bytes → 0 < bytes → MakesRoom old mid p q row room place
+pub relisted : (old fronts mid fronts' new : List ℕ) (p q : BlockState) (to : ℕ → ℕ) (row bytes place room : ℕ) → IsPool old p.table p.base → BlocksMove old fronts mid fronts' p q to → IsListRow mid q.table row bytes → 0 < bytes → MakesRoom old mid p q row room place
     → Relists mid new q.table row place (bytes / (dope_row mid q.table row).stride) (round4 bytes) → MovesAtNeed p.base (pool_at old p) (record { bytes = new; table = q.table }) row room
 relisted old fronts mid fronts' new p q to row bytes place room is b l some m r =
     let count : row_count new q.table ≡ row_count mid q.table = ap (λ d. d.count) (r.others 0 (omega (arith, l.above, l.within)) (λ e. omega (arith, e, l.above))) in
@@ -120,7 +120,7 @@ relisted old fronts mid fronts' new p q to row bytes place room is b l some m r 
     (ap (λ d. d.place) r.own) r.others
 
 -- a list that has no bytes any more
-pub no_bytes : (old new : List ℕ) (p : Places) (row bytes : ℕ) → IsPool old p.table p.base → 0 < row → bytes ≡ 0 → Relists old new p.table row no_place 0 0 → MovesAtNeed p.base (pool_at old p) (record { bytes = new; table = p.table }) row bytes
+pub no_bytes : (old new : List ℕ) (p : BlockState) (row bytes : ℕ) → IsPool old p.table p.base → 0 < row → bytes ≡ 0 → Relists old new p.table row no_place 0 0 → MovesAtNeed p.base (pool_at old p) (record { bytes = new; table = p.table }) row bytes
 no_bytes old new p row bytes is above none r =
     let count : row_count new p.table ≡ row_count old p.table = ap (λ d. d.count) (r.others 0 is.sound.some (λ e. omega (arith, e, above))) in
     let placed : (s : ℕ) → IsFull old p.table s → s ≢ row → (dope_row new p.table s).place ≡ (dope_row old p.table s).place = λ s f other. ap (λ d. d.place) (r.others s f.within other) in
@@ -133,7 +133,7 @@ no_bytes old new p row bytes is above none r =
     }
 
 -- the table with a row more
-pub row_added : (old fronts mid fronts' new : List ℕ) (p q : Places) (to : ℕ → ℕ) (stride room : ℕ) → IsPool old p.table p.base → BlocksMove old fronts mid fronts' p q to → MakesRoom old mid p q 0 room q.table → AddsRow mid new q.table stride
+pub row_added : (old fronts mid fronts' new : List ℕ) (p q : BlockState) (to : ℕ → ℕ) (stride room : ℕ) → IsPool old p.table p.base → BlocksMove old fronts mid fronts' p q to → MakesRoom old mid p q 0 room q.table → AddsRow mid new q.table stride
     → MovesAtNeed p.base (pool_at old p) (record { bytes = new; table = q.table }) 0 room
 row_added old fronts mid fronts' new p q to stride room is b m a =
     let s = b.blocks.is_pool.sound in
@@ -145,7 +145,7 @@ row_added old fronts mid fronts' new p q to stride room is b m a =
     (λ r less other. a.others r (omega (arith, other)) less)
 
 -- as many bytes as there are
-pub unmoved : (pool : List ℕ) (p : Places) (row bytes : ℕ) → IsPool pool p.table p.base → row < row_count pool p.table → bytes ≡ block_bytes (dope_row pool p.table row) → MovesAtNeed p.base (pool_at pool p) (pool_at pool p) row bytes
+pub unmoved : (pool : List ℕ) (p : BlockState) (row bytes : ℕ) → IsPool pool p.table p.base → row < row_count pool p.table → bytes ≡ block_bytes (dope_row pool p.table row) → MovesAtNeed p.base (pool_at pool p) (pool_at pool p) row bytes
 unmoved pool p row bytes is within long = record {
   still = λ q full other. full;
   own = λ some. record { within = within; some = omega (arith, some, long) };

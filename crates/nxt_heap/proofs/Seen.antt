@@ -10,7 +10,7 @@ use Rattle.nxt_blocks.specs.Blocks.{total}
 use Rattle.nxt_rows.specs.Rows.{dope_row, row_count}
 use Rattle.nxt_compact.specs.Pools.{block_bytes, blocks_in, IsFull}
 use Rattle.nxt_compact.proofs.Laws.Opening.{bytes_before, before_next, before_all}
-use Rattle.nxt_heap.specs.declared.blocks.Places.{Places}
+use Rattle.nxt_heap.specs.declared.blocks.BlockState.{BlockState}
 use Rattle.nxt_heap.specs.Lists.{ByteList, block_of, footprint}
 use Rattle.nxt_heap.specs.Inside.Pool.{row_bytes, list_in, lists_in, state_of, IsPool, IsHeap, IsListRow}
 use Rattle.nxt_heap.proofs.ListsKept.{list_in-first, list_in-none, list_in-some, lists_in-first, length-lists_in, lists_in-at}
@@ -74,12 +74,12 @@ row_inside pool table base row p within = omega (arith, table_inside pool table 
 
 -- ---- the static bytes
 
-pub length_static : (static_size : ℕ) (pool fronts : List ℕ) (q : Places) → IsHeap static_size q pool fronts → length (take static_size pool) ≡ static_size
+pub length_static : (static_size : ℕ) (pool fronts : List ℕ) (q : BlockState) → IsHeap static_size q pool fronts → length (take static_size pool) ≡ static_size
 length_static static_size pool fronts q h =
     let p = h.blocks.is_pool in
     omega (arith, length-take static_size pool, p.size, le-round4 static_size, h.base_is, base_below pool q.table q.base q.end p h.blocks.end_is, end_inside pool q.table q.base q.end p h.blocks.end_is)
 
-pub static_kept : (old new fronts : List ℕ) (static_size : ℕ) (q : Places) → IsHeap static_size q old fronts → length new ≡ length old → ((k : ℕ) → k < q.base → get_or new k 0 ≡ get_or old k 0) → take static_size new ≡ take static_size old
+pub static_kept : (old new fronts : List ℕ) (static_size : ℕ) (q : BlockState) → IsHeap static_size q old fronts → length new ≡ length old → ((k : ℕ) → k < q.base → get_or new k 0 ≡ get_or old k 0) → take static_size new ≡ take static_size old
 static_kept old new fronts static_size q h size same =
     let p = h.blocks.is_pool in
     let inside : 0 + static_size ≤ length old = omega (arith, p.size, le-round4 static_size, h.base_is, base_below old q.table q.base q.end p h.blocks.end_is, end_inside old q.table q.base q.end p h.blocks.end_is) in
@@ -127,7 +127,7 @@ blocks_all pool table base p =
     whole : 0 < row_count pool table → 1 + (row_count pool table - 1) ≡ row_count pool table
     whole some = omega (arith, some)
 
-pub footprint_state : (static_size : ℕ) (pool fronts : List ℕ) (q : Places) → IsHeap static_size q pool fronts → footprint (state_of static_size (record { bytes = pool; table = q.table })) ≡ q.footprint
+pub footprint_state : (static_size : ℕ) (pool fronts : List ℕ) (q : BlockState) → IsHeap static_size q pool fronts → footprint (state_of static_size (record { bytes = pool; table = q.table })) ≡ q.footprint
 footprint_state static_size pool fronts q h =
     let p = h.blocks.is_pool in
     let table : block_bytes (dope_row pool q.table 0) ≡ round4 (10 * row_count pool q.table) = block_is (dope_row pool q.table 0) ∙ ap round4 (ap (λ s. row_count pool q.table * s) p.sound.stride ∙ omega arith) in

@@ -11,23 +11,23 @@ use Rattle.nxt_compact.specs.Steps.{moved_to}
 use Rattle.nxt_compact.proofs.Laws.InPool.{full_in, standing}
 use Rattle.nxt_compact.proofs.Laws.Next.{IsNext}
 use Rattle.nxt_compact.proofs.Laws.Going.{Going, Going-start, Going-moved, Going-stayed, Going-full, Going-out, movable, going_above, place_moved, moved_full}
-use Rattle.nxt_heap.specs.declared.blocks.Places.{Places}
+use Rattle.nxt_heap.specs.declared.blocks.BlockState.{BlockState}
 use Rattle.nxt_heap.specs.Inside.Pool.{AreBlocks, BlocksMove, IsFrontIn, IsOpenTo, no_row, words}
 use Rattle.nxt_heap.proofs.Begins.{found, none_found, words_of}
 use Rattle.nxt_heap.proofs.Settled.{end_inside, end_word}
 use Rattle.nxt_heap.proofs.WordPlaces.{packed_words}
 
 -- the blocks that began below `upto` stand without gaps up to `low`, and so many of them have moved
-pub record IsSettling (old now fronts : List ℕ) (p q : Places) (low settled upto : ℕ) : Type 0 where
+pub record IsSettling (old now fronts : List ℕ) (p q : BlockState) (low settled upto : ℕ) : Type 0 where
   pub going : Going old now p.table q.table p.base low settled upto
   pub blocks : AreBlocks now fronts q
   pub base : q.base ≡ p.base
   pub footprint : q.footprint ≡ p.footprint
 
-pub settling_start : (pool fronts : List ℕ) (p : Places) → AreBlocks pool fronts p → IsSettling pool pool fronts p p p.base 0 0
+pub settling_start : (pool fronts : List ℕ) (p : BlockState) → AreBlocks pool fronts p → IsSettling pool pool fronts p p p.base 0 0
 settling_start pool fronts p b = record { going = Going-start pool p.table p.base b.is_pool.sound; blocks = b; base = refl; footprint = refl }
 
-module _ (old now fronts_old fronts : List ℕ) (p q : Places) (low settled upto : ℕ) (was : AreBlocks old fronts_old p) (s : IsSettling old now fronts p q low settled upto) where
+module _ (old now fronts_old fronts : List ℕ) (p q : BlockState) (low settled upto : ℕ) (was : AreBlocks old fronts_old p) (s : IsSettling old now fronts p q low settled upto) where
   pub low_word : low % 4 ≡ 0
   low_word = ap (λ n. n % 4) s.going.reached ∙ packed_words old p.table p.base upto was.word
 
@@ -74,7 +74,7 @@ module _ (old now fronts_old fronts : List ℕ) (p q : Places) (low settled upto
     pub next_open : IsOpenTo now q.table row low (block_bytes (dope_row now q.table row))
     next_open = let m = movable old now p.table q.table p.base low settled upto row s.going was.is_pool.sound n in record { within = m.room; others = m.others }
 
-    pub next_moved : (new fronts_new : List ℕ) (t : Places) → low < (dope_row now q.table row).place → BlocksMove now fronts new fronts_new q t (moved_to (dope_row now q.table row).place low)
+    pub next_moved : (new fronts_new : List ℕ) (t : BlockState) → low < (dope_row now q.table row).place → BlocksMove now fronts new fronts_new q t (moved_to (dope_row now q.table row).place low)
         → IsSettling old new fronts_new p t (low + block_bytes (dope_row now q.table row)) (settled + 1) (suc (dope_row old p.table row).place)
     next_moved new fronts_new t less m = record {
       going = Going-moved old now new p.table q.table t.table p.base low settled upto row was.is_pool.sound s.going n less (subst (λ b. Moves b (moved_to (dope_row now q.table row).place low) now new q.table t.table) s.base m.moves);

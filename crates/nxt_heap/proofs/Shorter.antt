@@ -7,17 +7,17 @@ use Rattle.nxt_compact.specs.Pools.{block_bytes, IsFull}
 use Rattle.nxt_compact.proofs.Laws.Going.{first_full, full_before}
 use Rattle.nxt_heap.specs.Moves.{HasBlock, MovesAtNeed, NoneMoves}
 use Rattle.nxt_heap.specs.Inside.Pool.{pool_at, AreBlocks, IsPool, IsRoom, BlocksMove, IsListRow, Relists}
-use Rattle.nxt_heap.specs.declared.blocks.Places.{Places}
+use Rattle.nxt_heap.specs.declared.blocks.BlockState.{BlockState}
 use Rattle.nxt_heap.proofs.Open.{behind_true}
 use Rattle.nxt_heap.proofs.Windows.{block-none, row_bytes-none}
 
 -- the other rows stay, and the table with them
-module _ (old new : List ℕ) (p : Places) (row place count room : ℕ) (above : 0 < row) (some : 0 < row_count old p.table) (r : Relists old new p.table row place count room) where
+module _ (old new : List ℕ) (p : BlockState) (row place count room : ℕ) (above : 0 < row) (some : 0 < row_count old p.table) (r : Relists old new p.table row place count room) where
   rows_are : row_count new p.table ≡ row_count old p.table
   rows_are = ap (λ d. d.count) (r.others 0 some (λ e. omega (arith, e, above)))
 
 -- a list that has no bytes any more
-pub emptied_stays : (old new : List ℕ) (p : Places) (row : ℕ) → 0 < row → 0 < row_count old p.table → Relists old new p.table row no_place 0 0 → NoneMoves (pool_at old p) (record { bytes = new; table = p.table })
+pub emptied_stays : (old new : List ℕ) (p : BlockState) (row : ℕ) → 0 < row → 0 < row_count old p.table → Relists old new p.table row no_place 0 0 → NoneMoves (pool_at old p) (record { bytes = new; table = p.table })
 emptied_stays old new p row above some r =
     let count = rows_are old new p row no_place 0 0 above some r in
     record {
@@ -47,7 +47,7 @@ has_room pool table base row bytes p full fits = record {
 }
 
 -- a list whose block has room for its bytes
-pub shorter_stays : (old fronts mid fronts' new : List ℕ) (p q : Places) (to : ℕ → ℕ) (row bytes place room : ℕ) → AreBlocks old fronts p → IsListRow old p.table row bytes → 0 < round4 bytes → round4 bytes ≤ block_bytes (dope_row old p.table row) → BlocksMove old fronts mid fronts' p q to
+pub shorter_stays : (old fronts mid fronts' new : List ℕ) (p q : BlockState) (to : ℕ → ℕ) (row bytes place room : ℕ) → AreBlocks old fronts p → IsListRow old p.table row bytes → 0 < round4 bytes → round4 bytes ≤ block_bytes (dope_row old p.table row) → BlocksMove old fronts mid fronts' p q to
     → Relists mid new q.table row place (bytes / (dope_row mid q.table row).stride) room → MovesAtNeed p.base (pool_at old p) (record { bytes = new; table = q.table }) row (round4 bytes) → NoneMoves (pool_at old p) (record { bytes = new; table = q.table })
 shorter_stays old fronts mid fronts' new p q to row bytes place room b l some fits m r need =
     let s = b.is_pool.sound in

@@ -11,7 +11,7 @@ use Rattle.nxt_compact.specs.Pools.{block_bytes, blocks_in, IsFull, IsSound}
 use Rattle.nxt_compact.proofs.Laws.Going.{first_full}
 use Rattle.nxt_compact.proofs.Laws.Opening.{bytes_before, before_next, before_all}
 use Rattle.nxt_compact.proofs.Laws.Shifted.{bytes_of_table}
-use Rattle.nxt_heap.specs.declared.blocks.Places.{Places}
+use Rattle.nxt_heap.specs.declared.blocks.BlockState.{BlockState}
 use Rattle.nxt_heap.specs.Moves.{RowsStay}
 use Rattle.nxt_heap.specs.Inside.Pool.{row_bytes, list_in, lists_in, lists_with_bytes, IsPool, AreBlocks}
 use Rattle.nxt_heap.proofs.Begins.{table_inside}
@@ -21,7 +21,7 @@ use Rattle.nxt_heap.proofs.Windows.{le-block}
 
 -- ---- the rows stay
 
-module _ (old new fronts : List ℕ) (q : Places) (b : AreBlocks old fronts q) (size : length new ≡ length old) (rows : (r : ℕ) → r < row_count old q.table → dope_row new q.table r ≡ dope_row old q.table r) where
+module _ (old new fronts : List ℕ) (q : BlockState) (b : AreBlocks old fronts q) (size : length new ≡ length old) (rows : (r : ℕ) → r < row_count old q.table → dope_row new q.table r ≡ dope_row old q.table r) where
   same_count : row_count new q.table ≡ row_count old q.table
   same_count = ap (λ d. d.count) (rows 0 b.is_pool.sound.some)
 
@@ -125,7 +125,7 @@ module _ (old new fronts : List ℕ) (q : Places) (b : AreBlocks old fronts q) (
 
 -- ---- bytes of one list
 
-module _ (xs fronts : List ℕ) (q : Places) (b : AreBlocks xs fronts q) (row at : ℕ) (bs : List ℕ) (above : 0 < row) (within : row < row_count xs q.table) (alive : (dope_row xs q.table row).stride ≢ 0) (some : 0 < length bs) (fits : at + length bs ≤ row_bytes (dope_row xs q.table row)) where
+module _ (xs fronts : List ℕ) (q : BlockState) (b : AreBlocks xs fronts q) (row at : ℕ) (bs : List ℕ) (above : 0 < row) (within : row < row_count xs q.table) (alive : (dope_row xs q.table row).stride ≢ 0) (some : 0 < length bs) (fits : at + length bs ≤ row_bytes (dope_row xs q.table row)) where
   abbrev pub after_bytes : List ℕ
   after_bytes = put_at ((dope_row xs q.table row).place + at) bs xs
 
@@ -183,7 +183,7 @@ stored_none xs table row at bs above within stride none =
 
 -- ---- bytes below all blocks
 
-module _ (xs fronts : List ℕ) (q : Places) (b : AreBlocks xs fronts q) (at : ℕ) (bs : List ℕ) (fits : at + length bs ≤ q.base) where
+module _ (xs fronts : List ℕ) (q : BlockState) (b : AreBlocks xs fronts q) (at : ℕ) (bs : List ℕ) (fits : at + length bs ≤ q.base) where
   base_inside : q.base ≤ q.table
   base_inside = omega (arith, b.is_pool.sound.above 0 (first_full xs q.table q.base b.is_pool.sound), b.is_pool.sound.place)
 

@@ -9,7 +9,7 @@ use Rattle.nxt_rows.specs.declared.DopeRow.{DopeRow as Row}
 use Rattle.nxt_rows.specs.Rows.{dope_row, row_count, chain, link_of, free_rows}
 use Rattle.nxt_rows.proofs.Laws.Chains.{All-at}
 use Rattle.nxt_rows.proofs.Laws.FreeRows.{free_rows-zero, free_rows-length}
-use Rattle.nxt_heap.specs.declared.blocks.Places.{Places}
+use Rattle.nxt_heap.specs.declared.blocks.BlockState.{BlockState}
 use Rattle.nxt_heap.specs.Dumps.{row_of, IsDopeTable}
 use Rattle.nxt_heap.specs.Inside.Pool.{list_in, state_of, IsPool, IsHeap}
 use Rattle.nxt_heap.proofs.Chained.{pool_table}
@@ -41,7 +41,7 @@ unfolding dope_row
 is_as bytes table r = record { place = refl; stride = refl; count = refl; back = refl; link = refl }
 
 -- so many bytes of the pool, with all blocks
-module _ (static_size : ℕ) (pool fronts : List ℕ) (q : Places) (h : IsHeap static_size q pool fronts) (n : ℕ) (past : q.end ≤ n) (inside : n ≤ length pool) where
+module _ (static_size : ℕ) (pool fronts : List ℕ) (q : BlockState) (h : IsHeap static_size q pool fronts) (n : ℕ) (past : q.end ≤ n) (inside : n ≤ length pool) where
   p : IsPool pool q.table q.base
   p = h.blocks.is_pool
 

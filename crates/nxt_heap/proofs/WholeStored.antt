@@ -3,13 +3,13 @@ use Rattle.std.proofs.Common.{◌≡◌, ℕ, ◌+◌, ◌*◌, ◌<◌, ◌≤�
 use Rattle.nxt_facts.specs.PutAt.{put_at}
 use Rattle.nxt_rows.specs.Rows.{dope_row, row_count}
 use Rattle.nxt_compact.specs.Pools.{block_bytes, IsFull}
-use Rattle.nxt_heap.specs.declared.blocks.Places.{Places}
+use Rattle.nxt_heap.specs.declared.blocks.BlockState.{BlockState}
 use Rattle.nxt_heap.specs.Inside.Pool.{row_bytes, AreBlocks, IsListRow, Stores}
 use Rattle.nxt_heap.proofs.Begins.{table_inside}
 use Rattle.nxt_heap.proofs.Stored.{stored_blocks, stored_stay, stored_lists, stored_below, stored_none}
 use Rattle.nxt_heap.proofs.Windows.{le-block}
 
-module _ (xs fronts : List ℕ) (p : Places) (table row at : ℕ) (bs : List ℕ) (b : AreBlocks xs fronts p) (same : table ≡ p.table) (l : IsListRow xs table row 0) where
+module _ (xs fronts : List ℕ) (p : BlockState) (table row at : ℕ) (bs : List ℕ) (b : AreBlocks xs fronts p) (same : table ≡ p.table) (l : IsListRow xs table row 0) where
   pub row_fits : table + 10 * (row + 1) ≤ length xs
   row_fits = omega (arith, l.within, same, table_inside xs p.table p.base b.is_pool, count)
     where

@@ -8,7 +8,7 @@ ghost use Rattle.nxt_compact.specs.Pools.{IsFull, block_bytes as bytes_of_block,
 ghost use Rattle.nxt_facts.specs.PutAt.{put_at};
 ghost use Rattle.nxt_heap.specs.Lists.{any_free};
 ghost use Rattle.nxt_heap.specs.Moves.{holds_behind, MovesAtNeed, GrowsTable, NoneMoves};
-ghost use Rattle.nxt_heap.specs.declared.blocks.Places.{Places};
+ghost use Rattle.nxt_heap.specs.declared.blocks.BlockState.{BlockState};
 ghost use Rattle.nxt_compact.specs.Steps.{moved_to};
 ghost use Rattle.nxt_heap.specs.Inside.Pool.{IsPool, IsEnd, AreFronts, IsHole, IsOpenTo, IsEndBelow, IsFit, IsRoom, AreBlocks, BlocksMove, MakesRoom, MayHave, HasMoved, IsListRow, Relists, HasLength, Frees, Takes, IsRefused, HasRow, AddsRow, Stores, lists_in, pool_at, row_bytes as bytes_in_row, words, no_row};
 
@@ -18,91 +18,96 @@ use nxt_compact::{block_bytes, move_block, open_gap};
 use nxt_rows::{DopeRow, NO_PLACE, free_row, get, set, take_row};
 use nxt_types::pool::{POOL_BYTES, ROW_BYTES, round4};
 
-/// The places of a pool: where blocks may begin, where the table stands, where the last block ends, and where it would end
-/// without gaps; and a place below which no hole begins that holds the bytes that were sought last.
+/// What is known of a pool's blocks, in bytes.
 #[derive(Clone, Copy)]
-pub struct Places {
+pub struct BlockState {
+    /// Where blocks may begin: the end of the static bytes.
     pub base: u32,
+    /// Where the table stands.
     pub table: u32,
+    /// Where the last block ends.
     pub end: u32,
+    /// Where it would end without gaps.
     pub footprint: u32,
+    /// A place below which no hole begins that holds what was sought last.
     pub searched: u32,
+    /// The length of the hole that was sought last.
     pub sought: u32,
 }
 
 /// The front of the lowest hole that holds these bytes.
-fn hole(pool: &[u8], fronts: &[u16], at: Places, bytes: u32) -> Option<u32>
-    requires blocks { AreBlocks pool.now fronts.now at }
+fn hole(pool: &[u8], fronts: &[u16], state: BlockState, bytes: u32) -> Option<u32>
+    requires blocks { AreBlocks pool.now fronts.now state }
     requires word { bytes % 4 ≡ 0 }
     requires some { 0 < bytes }
-    ensures some { IfSome result (IsFit pool.now at.table at.base bytes) }
-    ensures none { IfNone result ((p : ℕ) → at.base ≤ p → IsHole pool.now at.table p bytes → ⊥) }
+    ensures some { IfSome result (IsFit pool.now state.table state.base bytes) }
+    ensures none { IfNone result ((p : ℕ) → state.base ≤ p → IsHole pool.now state.table p bytes → ⊥) }
 {
-    let start = if at.end == at.footprint {
-        at.end
-    } else if bytes >= at.sought {
-        at.searched
+    let start = if state.end == state.footprint {
+        state.end
+    } else if bytes >= state.sought {
+        state.searched
     } else {
-        at.base
+        state.base
     };
-    first_fit(fronts, pool, at.table, start, bytes)
+    first_fit(fronts, pool, state.table, start, bytes)
 }
 
 /// Moves a row's block to a place where no other one has a byte.
-fn move_to(pool: &mut [u8], fronts: &mut [u16], at: &mut Places, row: u16, place: u32)
-    requires blocks { AreBlocks pool.old fronts.old at.old }
-    requires full { IsFull pool.old at.old.table row }
-    requires above { at.old.base ≤ place }
+fn move_to(pool: &mut [u8], fronts: &mut [u16], state: &mut BlockState, row: u16, place: u32)
+    requires blocks { AreBlocks pool.old fronts.old state.old }
+    requires full { IsFull pool.old state.old.table row }
+    requires above { state.old.base ≤ place }
     requires word { place % 4 ≡ 0 }
-    requires hole { IsOpenTo pool.old at.old.table row place (bytes_of_block (dope_row pool.old at.old.table row)) }
-    ensures { BlocksMove pool.old fronts.old pool.new fronts.new at.old at.new (moved_to (dope_row pool.old at.old.table row).place place) }
+    requires hole { IsOpenTo pool.old state.old.table row place (bytes_of_block (dope_row pool.old state.old.table row)) }
+    ensures { BlocksMove pool.old fronts.old pool.new fronts.new state.old state.new (moved_to (dope_row pool.old state.old.table row).place place) }
 {
-    let from = get(pool, at.table, row).place as u32;
+    let from = get(pool, state.table, row).place as u32;
     fronts[word(from)] = NO_ROW;
-    move_block(pool, &mut at.table, row, place);
+    move_block(pool, &mut state.table, row, place);
     fronts[word(place)] = row;
-    at.end = end_after(pool, fronts, *at, row, from);
-    at.searched = at.base;
+    state.end = end_after(pool, fronts, *state, row, from);
+    state.searched = state.base;
 }
 
 /// Where the last block ends once the block of a row has moved from a place.
-fn end_after(pool: &[u8], fronts: &[u16], at: Places, row: u16, from: u32) -> u32
-    requires pool { IsPool pool.now at.table at.base }
-    requires fronts { AreFronts pool.now at.table fronts.now }
-    requires moved { HasMoved pool.now at row from }
-    ensures { IsEnd pool.now at.table result }
+fn end_after(pool: &[u8], fronts: &[u16], state: BlockState, row: u16, from: u32) -> u32
+    requires pool { IsPool pool.now state.table state.base }
+    requires fronts { AreFronts pool.now state.table fronts.now }
+    requires moved { HasMoved pool.now state row from }
+    ensures { IsEnd pool.now state.table result }
 {
-    let found = get(pool, at.table, row);
+    let found = get(pool, state.table, row);
     let bytes = block_bytes(found) as u32;
     let end = found.place as u32 + bytes;
-    if end >= at.end {
+    if end >= state.end {
         end
-    } else if from + bytes == at.end {
-        last_end(fronts, pool, at.table, from)
+    } else if from + bytes == state.end {
+        last_end(fronts, pool, state.table, from)
     } else {
-        at.end
+        state.end
     }
 }
 
 /// Moves up to `k` of the lowest blocks that have a gap below down to the end of the block before, and gives the number of
 /// blocks that moved.
-pub fn settle(pool: &mut [u8], fronts: &mut [u16], at: &mut Places, k: u16) -> u16
-    requires { AreBlocks pool.old fronts.old at.old }
-    ensures moves { BlocksMove pool.old fronts.old pool.new fronts.new at.old at.new (place_after k at.old.base (blocks_in pool.old at.old.table)) }
-    ensures compacts { Compacts at.old.base k pool.old pool.new at.old.table at.new.table result }
+pub fn settle(pool: &mut [u8], fronts: &mut [u16], state: &mut BlockState, k: u16) -> u16
+    requires { AreBlocks pool.old fronts.old state.old }
+    ensures moves { BlocksMove pool.old fronts.old pool.new fronts.new state.old state.new (place_after k state.old.base (blocks_in pool.old state.old.table)) }
+    ensures compacts { Compacts state.old.base k pool.old pool.new state.old.table state.new.table result }
 {
-    if at.end == at.footprint {
+    if state.end == state.footprint {
         return 0;
     }
     let mut settled = 0;
-    let mut low = at.base;
+    let mut low = state.base;
     while settled < k {
-        let Some(row) = first_front(fronts, word(low), word(at.end)) else {
+        let Some(row) = first_front(fronts, word(low), word(state.end)) else {
             return settled;
         };
-        let found = get(pool, at.table, row);
+        let found = get(pool, state.table, row);
         if low < found.place as u32 {
-            move_to(pool, fronts, at, row, low);
+            move_to(pool, fronts, state, row, low);
             settled += 1;
         }
         low += block_bytes(found) as u32;
@@ -111,18 +116,18 @@ pub fn settle(pool: &mut [u8], fronts: &mut [u16], at: &mut Places, k: u16) -> u
 }
 
 /// Opens room for `bytes` in a row's block by moving other blocks, and gives the block's place.
-fn slide(pool: &mut [u8], fronts: &mut [u16], at: &mut Places, row: u16, bytes: u32) -> u32
-    requires blocks { AreBlocks pool.old fronts.old at.old }
-    requires may { MayHave pool.old at.old.table at.old.base row bytes }
-    requires full { IsFull pool.old at.old.table row }
-    requires longer { bytes_of_block (dope_row pool.old at.old.table row) < bytes }
-    ensures moves { BlocksMove pool.old fronts.old pool.new fronts.new at.old at.new (slid_in pool.old at.old.table at.old.base row (bytes - bytes_of_block (dope_row pool.old at.old.table row))) }
-    ensures room { IsRoom pool.new at.new.table at.new.base row result bytes }
+fn slide(pool: &mut [u8], fronts: &mut [u16], state: &mut BlockState, row: u16, bytes: u32) -> u32
+    requires blocks { AreBlocks pool.old fronts.old state.old }
+    requires may { MayHave pool.old state.old.table state.old.base row bytes }
+    requires full { IsFull pool.old state.old.table row }
+    requires longer { bytes_of_block (dope_row pool.old state.old.table row) < bytes }
+    ensures moves { BlocksMove pool.old fronts.old pool.new fronts.new state.old state.new (slid_in pool.old state.old.table state.old.base row (bytes - bytes_of_block (dope_row pool.old state.old.table row))) }
+    ensures room { IsRoom pool.new state.new.table state.new.base row result bytes }
 {
-    open_gap(pool, &mut at.table, at.base, row, bytes);
-    at.end = refresh(pool, fronts, at.table);
-    at.searched = at.base;
-    get(pool, at.table, row).place as u32
+    open_gap(pool, &mut state.table, state.base, row, bytes);
+    state.end = refresh(pool, fronts, state.table);
+    state.searched = state.base;
+    get(pool, state.table, row).place as u32
 }
 
 /// Notes anew where blocks begin, and gives the end of the last one.
@@ -139,22 +144,28 @@ fn refresh(pool: &[u8], fronts: &mut [u16], table: u32) -> u32
 /// Gives a row's block room for `bytes`, and gives the block's place, or where it is to stand if the row has none.
 /// Blocks move only at need.
 #[inline(always)]
-pub fn make_room(pool: &mut [u8], fronts: &mut [u16], at: &mut Places, row: u16, bytes: u32) -> u32
-    requires blocks { AreBlocks pool.old fronts.old at.old }
-    requires may { MayHave pool.old at.old.table at.old.base row bytes }
-    ensures moves { (to : ℕ → ℕ) × BlocksMove pool.old fronts.old pool.new fronts.new at.old at.new to }
-    ensures room { IsRoom pool.new at.new.table at.new.base row result bytes }
-    ensures need { MakesRoom pool.old pool.new at.old at.new row bytes result }
+pub fn make_room(
+    pool: &mut [u8],
+    fronts: &mut [u16],
+    state: &mut BlockState,
+    row: u16,
+    bytes: u32,
+) -> u32
+    requires blocks { AreBlocks pool.old fronts.old state.old }
+    requires may { MayHave pool.old state.old.table state.old.base row bytes }
+    ensures moves { (to : ℕ → ℕ) × BlocksMove pool.old fronts.old pool.new fronts.new state.old state.new to }
+    ensures room { IsRoom pool.new state.new.table state.new.base row result bytes }
+    ensures need { MakesRoom pool.old pool.new state.old state.new row bytes result }
 {
-    let found = get(pool, at.table, row);
+    let found = get(pool, state.table, row);
     let had = block_bytes(found) as u32;
     let place = found.place as u32;
     if had == 0 {
-        place_new(pool, fronts, at, row, bytes)
+        place_new(pool, fronts, state, row, bytes)
     } else if is_open(fronts, place + had, place + bytes) {
         place
     } else {
-        place_longer(pool, fronts, at, row, bytes)
+        place_longer(pool, fronts, state, row, bytes)
     }
 }
 
@@ -167,43 +178,55 @@ fn is_open(fronts: &[u16], from: u32, to: u32) -> bool
 }
 
 /// Moves a row's block into a hole for `bytes`, or opens room behind it, and gives the block's place.
-fn place_longer(pool: &mut [u8], fronts: &mut [u16], at: &mut Places, row: u16, bytes: u32) -> u32
-    requires blocks { AreBlocks pool.old fronts.old at.old }
-    requires may { MayHave pool.old at.old.table at.old.base row bytes }
-    requires full { IsFull pool.old at.old.table row }
-    requires longer { bytes_of_block (dope_row pool.old at.old.table row) < bytes }
-    requires behind { holds_behind at.old.base (pool_at pool.old at.old) row bytes ≡ false }
-    ensures moves { (to : ℕ → ℕ) × BlocksMove pool.old fronts.old pool.new fronts.new at.old at.new to }
-    ensures room { IsRoom pool.new at.new.table at.new.base row result bytes }
-    ensures need { MakesRoom pool.old pool.new at.old at.new row bytes result }
+fn place_longer(
+    pool: &mut [u8],
+    fronts: &mut [u16],
+    state: &mut BlockState,
+    row: u16,
+    bytes: u32,
+) -> u32
+    requires blocks { AreBlocks pool.old fronts.old state.old }
+    requires may { MayHave pool.old state.old.table state.old.base row bytes }
+    requires full { IsFull pool.old state.old.table row }
+    requires longer { bytes_of_block (dope_row pool.old state.old.table row) < bytes }
+    requires behind { holds_behind state.old.base (pool_at pool.old state.old) row bytes ≡ false }
+    ensures moves { (to : ℕ → ℕ) × BlocksMove pool.old fronts.old pool.new fronts.new state.old state.new to }
+    ensures room { IsRoom pool.new state.new.table state.new.base row result bytes }
+    ensures need { MakesRoom pool.old pool.new state.old state.new row bytes result }
 {
-    match hole(pool, fronts, *at, bytes) {
+    match hole(pool, fronts, *state, bytes) {
         Some(place) => {
-            move_to(pool, fronts, at, row, place);
+            move_to(pool, fronts, state, row, place);
             place
         }
-        None => slide(pool, fronts, at, row, bytes),
+        None => slide(pool, fronts, state, row, bytes),
     }
 }
 
 /// Finds a hole for `bytes` of a row without a block, or closes all gaps, and gives the place.
-fn place_new(pool: &mut [u8], fronts: &mut [u16], at: &mut Places, row: u16, bytes: u32) -> u32
-    requires blocks { AreBlocks pool.old fronts.old at.old }
-    requires may { MayHave pool.old at.old.table at.old.base row bytes }
-    requires empty { bytes_of_block (dope_row pool.old at.old.table row) ≡ 0 }
-    ensures moves { (to : ℕ → ℕ) × BlocksMove pool.old fronts.old pool.new fronts.new at.old at.new to }
-    ensures room { IsRoom pool.new at.new.table at.new.base row result bytes }
-    ensures need { MakesRoom pool.old pool.new at.old at.new row bytes result }
+fn place_new(
+    pool: &mut [u8],
+    fronts: &mut [u16],
+    state: &mut BlockState,
+    row: u16,
+    bytes: u32,
+) -> u32
+    requires blocks { AreBlocks pool.old fronts.old state.old }
+    requires may { MayHave pool.old state.old.table state.old.base row bytes }
+    requires empty { bytes_of_block (dope_row pool.old state.old.table row) ≡ 0 }
+    ensures moves { (to : ℕ → ℕ) × BlocksMove pool.old fronts.old pool.new fronts.new state.old state.new to }
+    ensures room { IsRoom pool.new state.new.table state.new.base row result bytes }
+    ensures need { MakesRoom pool.old pool.new state.old state.new row bytes result }
 {
-    match hole(pool, fronts, *at, bytes) {
+    match hole(pool, fronts, *state, bytes) {
         Some(place) => {
-            at.searched = place;
-            at.sought = bytes;
+            state.searched = place;
+            state.sought = bytes;
             place
         }
         None => {
-            settle(pool, fronts, at, u16::MAX);
-            at.footprint
+            settle(pool, fronts, state, u16::MAX);
+            state.footprint
         }
     }
 }
@@ -212,30 +235,30 @@ fn place_new(pool: &mut [u8], fronts: &mut [u16], at: &mut Places, row: u16, byt
 fn set_length(
     pool: &mut [u8],
     fronts: &mut [u16],
-    at: &mut Places,
+    state: &mut BlockState,
     row: u16,
     place: u32,
     bytes: u32,
 )
-    requires blocks { AreBlocks pool.old fronts.old at.old }
-    requires list { IsListRow pool.old at.old.table row bytes }
+    requires blocks { AreBlocks pool.old fronts.old state.old }
+    requires list { IsListRow pool.old state.old.table row bytes }
     requires some { 0 < bytes }
-    requires room { IsRoom pool.old at.old.table at.old.base row place (rounded bytes) }
-    ensures length { HasLength pool.old pool.new fronts.new at.old at.new row bytes }
-    ensures row { Relists pool.old pool.new at.old.table row place (bytes / (dope_row pool.old at.old.table row).stride) (rounded bytes) }
-    ensures table { at.new.table ≡ at.old.table }
+    requires room { IsRoom pool.old state.old.table state.old.base row place (rounded bytes) }
+    ensures length { HasLength pool.old pool.new fronts.new state.old state.new row bytes }
+    ensures row { Relists pool.old pool.new state.old.table row place (bytes / (dope_row pool.old state.old.table row).stride) (rounded bytes) }
+    ensures table { state.new.table ≡ state.old.table }
 {
-    let block = block_bytes(get(pool, at.table, row)) as u32;
+    let block = block_bytes(get(pool, state.table, row)) as u32;
     let room = round4(bytes as u64) as u32;
-    write_length(pool, at.table, row, place, bytes);
+    write_length(pool, state.table, row, place, bytes);
     fronts[word(place)] = row;
-    at.end = if place + block == at.end {
+    state.end = if place + block == state.end {
         place + room
     } else {
-        at.end.max(place + room)
+        state.end.max(place + room)
     };
-    at.footprint = at.footprint + room - block;
-    at.searched = still_searched(*at, place);
+    state.footprint = state.footprint + room - block;
+    state.searched = still_searched(*state, place);
 }
 
 /// Writes the row of a list that has its `bytes` at a place, and zeros behind its front.
@@ -285,42 +308,42 @@ pub fn byte_count(row: DopeRow) -> u32
 }
 
 /// Gives a list no bytes.
-fn drop_bytes(pool: &mut [u8], fronts: &mut [u16], at: &mut Places, row: u16)
-    requires blocks { AreBlocks pool.old fronts.old at.old }
-    requires list { IsListRow pool.old at.old.table row 0 }
-    ensures length { HasLength pool.old pool.new fronts.new at.old at.new row 0 }
-    ensures row { Relists pool.old pool.new at.old.table row no_place 0 0 }
-    ensures table { at.new.table ≡ at.old.table }
+fn drop_bytes(pool: &mut [u8], fronts: &mut [u16], state: &mut BlockState, row: u16)
+    requires blocks { AreBlocks pool.old fronts.old state.old }
+    requires list { IsListRow pool.old state.old.table row 0 }
+    ensures length { HasLength pool.old pool.new fronts.new state.old state.new row 0 }
+    ensures row { Relists pool.old pool.new state.old.table row no_place 0 0 }
+    ensures table { state.new.table ≡ state.old.table }
 {
-    let found = get(pool, at.table, row);
+    let found = get(pool, state.table, row);
     let block = block_bytes(found) as u32;
-    write_none(pool, at.table, row);
+    write_none(pool, state.table, row);
     if block > 0 {
         let place = found.place as u32;
         fronts[word(place)] = NO_ROW;
-        at.end = if place + block == at.end {
-            end_below(pool, fronts, *at, place)
+        state.end = if place + block == state.end {
+            end_below(pool, fronts, *state, place)
         } else {
-            at.end
+            state.end
         };
-        at.footprint -= block;
-        at.searched = at.base;
+        state.footprint -= block;
+        state.searched = state.base;
     }
 }
 
 /// Where the last block ends that begins below the place at which the last of all blocks began.
-fn end_below(pool: &[u8], fronts: &[u16], at: Places, place: u32) -> u32
-    requires pool { IsPool pool.now at.table at.base }
-    requires fronts { AreFronts pool.now at.table fronts.now }
+fn end_below(pool: &[u8], fronts: &[u16], state: BlockState, place: u32) -> u32
+    requires pool { IsPool pool.now state.table state.base }
+    requires fronts { AreFronts pool.now state.table fronts.now }
     requires below { place ≤ pool_size }
-    requires most { (r : ℕ) → IsFull pool.now at.table r → (dope_row pool.now at.table r).place + bytes_of_block (dope_row pool.now at.table r) ≤ place }
-    requires packed { at.end ≡ at.footprint → place ≤ at.base + total (blocks_in pool.now at.table) }
-    ensures { IsEndBelow pool.now at.table place result }
+    requires most { (r : ℕ) → IsFull pool.now state.table r → (dope_row pool.now state.table r).place + bytes_of_block (dope_row pool.now state.table r) ≤ place }
+    requires packed { state.end ≡ state.footprint → place ≤ state.base + total (blocks_in pool.now state.table) }
+    ensures { IsEndBelow pool.now state.table place result }
 {
-    if at.end == at.footprint {
+    if state.end == state.footprint {
         place
     } else {
-        last_end(fronts, pool, at.table, place)
+        last_end(fronts, pool, state.table, place)
     }
 }
 
@@ -344,50 +367,56 @@ fn write_none(pool: &mut [u8], table: u32, row: u16)
 }
 
 /// Gives a list the length of `bytes`, a multiple of its stride. Its front stays, and new bytes are 0.
-pub fn resize_list(pool: &mut [u8], fronts: &mut [u16], at: &mut Places, row: u16, bytes: u32)
-    requires blocks { AreBlocks pool.old fronts.old at.old }
-    requires list { IsListRow pool.old at.old.table row bytes }
-    requires fits { at.old.footprint + rounded bytes ≤ pool_size + bytes_of_block (dope_row pool.old at.old.table row) }
-    ensures length { HasLength pool.old pool.new fronts.new at.old at.new row bytes }
-    ensures need { MovesAtNeed at.old.base (pool_at pool.old at.old) (pool_at pool.new at.new) row (rounded bytes) }
-    ensures shorter { rounded bytes ≤ bytes_of_block (dope_row pool.old at.old.table row) → NoneMoves (pool_at pool.old at.old) (pool_at pool.new at.new) }
+pub fn resize_list(
+    pool: &mut [u8],
+    fronts: &mut [u16],
+    state: &mut BlockState,
+    row: u16,
+    bytes: u32,
+)
+    requires blocks { AreBlocks pool.old fronts.old state.old }
+    requires list { IsListRow pool.old state.old.table row bytes }
+    requires fits { state.old.footprint + rounded bytes ≤ pool_size + bytes_of_block (dope_row pool.old state.old.table row) }
+    ensures length { HasLength pool.old pool.new fronts.new state.old state.new row bytes }
+    ensures need { MovesAtNeed state.old.base (pool_at pool.old state.old) (pool_at pool.new state.new) row (rounded bytes) }
+    ensures shorter { rounded bytes ≤ bytes_of_block (dope_row pool.old state.old.table row) → NoneMoves (pool_at pool.old state.old) (pool_at pool.new state.new) }
 {
     if bytes == 0 {
-        drop_bytes(pool, fronts, at, row);
+        drop_bytes(pool, fronts, state, row);
         return;
     }
     let room = round4(bytes as u64) as u32;
-    let place = make_room(pool, fronts, at, row, room);
-    set_length(pool, fronts, at, row, place, bytes);
+    let place = make_room(pool, fronts, state, row, room);
+    set_length(pool, fronts, state, row, place, bytes);
 }
 
 /// Frees a list and its row.
-pub fn free_list(pool: &mut [u8], fronts: &mut [u16], at: &mut Places, row: u16)
-    requires blocks { AreBlocks pool.old fronts.old at.old }
-    requires list { IsListRow pool.old at.old.table row 0 }
-    ensures { Frees pool.old pool.new fronts.new at.old at.new row }
+pub fn free_list(pool: &mut [u8], fronts: &mut [u16], state: &mut BlockState, row: u16)
+    requires blocks { AreBlocks pool.old fronts.old state.old }
+    requires list { IsListRow pool.old state.old.table row 0 }
+    ensures { Frees pool.old pool.new fronts.new state.old state.new row }
 {
-    drop_bytes(pool, fronts, at, row);
-    free_row(pool, at.table, row);
+    drop_bytes(pool, fronts, state, row);
+    free_row(pool, state.table, row);
 }
 
 /// Takes a free row for an empty list, or adds one to the table where the pool holds it.
 pub fn new_list(
     pool: &mut [u8],
     fronts: &mut [u16],
-    at: &mut Places,
+    state: &mut BlockState,
     stride: u16,
 ) -> Result<u16, PoolPassed>
-    requires blocks { AreBlocks pool.old fronts.old at.old }
+    requires blocks { AreBlocks pool.old fronts.old state.old }
     requires stride { 1 ≤ stride }
-    ensures ok { IfOk result (Takes pool.old pool.new fronts.new at.old at.new stride) }
-    ensures need { OnOk result (GrowsTable at.old.base (pool_at pool.old at.old) (pool_at pool.new at.new) (any_free (lists_in pool.old at.old.table)) (rounded (10 * (row_count pool.old at.old.table + 1)))) }
-    ensures passed { IfErr result (λ e. IsRefused pool.old at.old e.0) }
-    ensures err { OnErr result ((pool.new ≡ pool.old) × (fronts.new ≡ fronts.old) × (at.new ≡ at.old)) }
+    ensures ok { IfOk result (Takes pool.old pool.new fronts.new state.old state.new stride) }
+    ensures need { OnOk result (GrowsTable state.old.base (pool_at pool.old state.old) (pool_at pool.new state.new) (any_free (lists_in pool.old state.old.table)) (rounded (10 * (row_count pool.old state.old.table + 1)))) }
+    ensures passed { IfErr result (λ e. IsRefused pool.old state.old e.0) }
+    ensures err { OnErr result ((pool.new ≡ pool.old) × (fronts.new ≡ fronts.old) × (state.new ≡ state.old)) }
 {
-    match take_row(pool, at.table, stride) {
+    match take_row(pool, state.table, stride) {
         Some(row) => Ok(row),
-        None => add_list(pool, fronts, at, stride),
+        None => add_list(pool, fronts, state, stride),
     }
 }
 
@@ -395,60 +424,60 @@ pub fn new_list(
 fn add_list(
     pool: &mut [u8],
     fronts: &mut [u16],
-    at: &mut Places,
+    state: &mut BlockState,
     stride: u16,
 ) -> Result<u16, PoolPassed>
-    requires blocks { AreBlocks pool.old fronts.old at.old }
-    requires full { free_rows pool.old at.old.table ≡ [] }
+    requires blocks { AreBlocks pool.old fronts.old state.old }
+    requires full { free_rows pool.old state.old.table ≡ [] }
     requires stride { 1 ≤ stride }
-    ensures ok { IfOk result (Takes pool.old pool.new fronts.new at.old at.new stride) }
-    ensures need { OnOk result (MovesAtNeed at.old.base (pool_at pool.old at.old) (pool_at pool.new at.new) 0 (rounded (10 * (row_count pool.old at.old.table + 1)))) }
-    ensures passed { IfErr result (λ e. IsRefused pool.old at.old e.0) }
-    ensures err { OnErr result ((pool.new ≡ pool.old) × (fronts.new ≡ fronts.old) × (at.new ≡ at.old)) }
+    ensures ok { IfOk result (Takes pool.old pool.new fronts.new state.old state.new stride) }
+    ensures need { OnOk result (MovesAtNeed state.old.base (pool_at pool.old state.old) (pool_at pool.new state.new) 0 (rounded (10 * (row_count pool.old state.old.table + 1)))) }
+    ensures passed { IfErr result (λ e. IsRefused pool.old state.old e.0) }
+    ensures err { OnErr result ((pool.new ≡ pool.old) × (fronts.new ≡ fronts.old) × (state.new ≡ state.old)) }
 {
-    let row = get(pool, at.table, 0).count;
+    let row = get(pool, state.table, 0).count;
     let had = ROW_BYTES * row as u64;
     let room = round4(had + ROW_BYTES);
-    let footprint = at.footprint as u64 - round4(had) + room;
+    let footprint = state.footprint as u64 - round4(had) + room;
     if footprint > POOL_BYTES {
         return Err(PoolPassed(footprint));
     }
-    make_room(pool, fronts, at, 0, room as u32);
-    add_row(pool, fronts, at, stride);
+    make_room(pool, fronts, state, 0, room as u32);
+    add_row(pool, fronts, state, stride);
     Ok(row)
 }
 
 /// Adds a row with an empty list to a table that has room for it.
-fn add_row(pool: &mut [u8], fronts: &[u16], at: &mut Places, stride: u16)
-    requires blocks { AreBlocks pool.old fronts.now at.old }
-    requires full { free_rows pool.old at.old.table ≡ [] }
+fn add_row(pool: &mut [u8], fronts: &[u16], state: &mut BlockState, stride: u16)
+    requires blocks { AreBlocks pool.old fronts.now state.old }
+    requires full { free_rows pool.old state.old.table ≡ [] }
     requires stride { 1 ≤ stride }
-    requires room { IsRoom pool.old at.old.table at.old.base 0 at.old.table (rounded (10 * (row_count pool.old at.old.table + 1))) }
-    ensures added { HasRow pool.old pool.new fronts.now at.old at.new stride }
-    ensures rows { AddsRow pool.old pool.new at.old.table stride }
-    ensures table { at.new.table ≡ at.old.table }
+    requires room { IsRoom pool.old state.old.table state.old.base 0 state.old.table (rounded (10 * (row_count pool.old state.old.table + 1))) }
+    ensures added { HasRow pool.old pool.new fronts.now state.old state.new stride }
+    ensures rows { AddsRow pool.old pool.new state.old.table stride }
+    ensures table { state.new.table ≡ state.old.table }
 {
-    let rows = get(pool, at.table, 0).count;
+    let rows = get(pool, state.table, 0).count;
     let had = round4(ROW_BYTES * rows as u64) as u32;
     let room = round4(ROW_BYTES * (rows as u64 + 1)) as u32;
-    write_row(pool, at.table, stride);
-    at.end = if at.table + had == at.end {
-        at.table + room
+    write_row(pool, state.table, stride);
+    state.end = if state.table + had == state.end {
+        state.table + room
     } else {
-        at.end.max(at.table + room)
+        state.end.max(state.table + room)
     };
-    at.footprint = at.footprint + room - had;
-    at.searched = still_searched(*at, at.table);
+    state.footprint = state.footprint + room - had;
+    state.searched = still_searched(*state, state.table);
 }
 
 /// Up to where it stays known that no hole begins once a block has another size that stands at a place.
-fn still_searched(at: Places, place: u32) -> u32
-    ensures { (result ≡ at.base) ⊎ ((result ≡ at.searched) × (at.searched ≤ place)) }
+fn still_searched(state: BlockState, place: u32) -> u32
+    ensures { (result ≡ state.base) ⊎ ((result ≡ state.searched) × (state.searched ≤ place)) }
 {
-    if place < at.searched {
-        at.base
+    if place < state.searched {
+        state.base
     } else {
-        at.searched
+        state.searched
     }
 }
 
@@ -467,7 +496,7 @@ fn write_row(pool: &mut [u8], table: u32, stride: u16)
 }
 
 /// Lays out zeros, with a table of row 0 and free rows where blocks may begin.
-pub fn lay_out(pool: &mut [u8], fronts: &mut [u16], base: u32, rows: u16) -> Places
+pub fn lay_out(pool: &mut [u8], fronts: &mut [u16], base: u32, rows: u16) -> BlockState
     requires size { length pool.old ≡ pool_size }
     requires fronts { length fronts.old ≡ words }
     requires word { base % 4 ≡ 0 }
@@ -481,7 +510,7 @@ pub fn lay_out(pool: &mut [u8], fronts: &mut [u16], base: u32, rows: u16) -> Pla
     free_all(pool, base, rows);
     note_all(fronts, pool, base);
     let end = base + round4(ROW_BYTES * rows as u64) as u32;
-    Places {
+    BlockState {
         base,
         table: base,
         end,
@@ -536,7 +565,7 @@ pub fn row_bytes(pool: &[u8], table: u32, row: u16) -> &[u8]
 
 /// Stores bytes of a row's list from a place on.
 pub fn write_bytes(pool: &mut [u8], table: u32, row: u16, at: u32, bytes: &[u8])
-    requires blocks { (fronts : List ℕ) × (p : Places) × AreBlocks pool.old fronts p × (table ≡ p.table) }
+    requires blocks { (fronts : List ℕ) × (p : BlockState) × AreBlocks pool.old fronts p × (table ≡ p.table) }
     requires list { IsListRow pool.old table row 0 }
     requires at { at + length bytes.now ≤ bytes_in_row (dope_row pool.old table row) }
     ensures { Stores pool.old pool.new table row at bytes.now }
@@ -558,7 +587,7 @@ pub fn put(pool: &mut [u8], at: usize, bytes: &[u8])
 
 /// Stores the bytes of a row's list in another one, from its first byte on.
 pub fn copy_bytes(pool: &mut [u8], table: u32, to: u16, from: u16)
-    requires blocks { (fronts : List ℕ) × (p : Places) × AreBlocks pool.old fronts p × (table ≡ p.table) }
+    requires blocks { (fronts : List ℕ) × (p : BlockState) × AreBlocks pool.old fronts p × (table ≡ p.table) }
     requires list { IsListRow pool.old table to 0 }
     requires source { IsListRow pool.old table from 0 }
     requires fits { bytes_in_row (dope_row pool.old table from) ≤ bytes_in_row (dope_row pool.old table to) }

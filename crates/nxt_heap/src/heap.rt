@@ -10,7 +10,7 @@ ghost use Rattle.nxt_model.specs.Dump.{greatest_end};
 ghost use Rattle.nxt_heap.specs.Inside.Pool.{Shows};
 
 use crate::blocks::{
-    Places, byte_count, copy_bytes, free_list, lay_out, new_list, put, resize_list, row_bytes,
+    BlockState, byte_count, copy_bytes, free_list, lay_out, new_list, put, resize_list, row_bytes,
     settle, write_bytes,
 };
 use crate::fronts::{NO_ROW, WORDS};
@@ -33,7 +33,7 @@ pub struct Heap {
     pool: Vec<u8>,
     fronts: Vec<u16>,
     static_size: u32,
-    places: Places,
+    state: BlockState,
 }
 
 impl Model for Heap {
@@ -42,9 +42,9 @@ impl Model for Heap {
 
     ghost Value = { HeapViews };
 
-    ghost view = { λ a. views_of a.static_size (record { bytes = a.pool.items; table = a.places.table }) };
+    ghost view = { λ a. views_of a.static_size (record { bytes = a.pool.items; table = a.state.table }) };
 
-    ghost invariant = { λ a. IsHeap a.static_size a.places a.pool.items a.fronts.items };
+    ghost invariant = { λ a. IsHeap a.static_size a.state a.pool.items a.fronts.items };
 }
 
 impl Heap {
@@ -57,12 +57,12 @@ impl Heap {
         let mut pool = vec![in alloc; 0; POOL_BYTES as usize]?;
         let mut fronts = vec![in alloc; NO_ROW; WORDS]?;
         let base = round4(static_size as u64) as u32;
-        let places = lay_out(&mut pool, &mut fronts, base, rows);
+        let state = lay_out(&mut pool, &mut fronts, base, rows);
         Ok(Heap {
             pool,
             fronts,
             static_size,
-            places,
+            state,
         })
     }
 
@@ -73,7 +73,7 @@ impl Heap {
         self.pool.copy_from_slice(&other.pool);
         self.fronts.copy_from_slice(&other.fronts);
         self.static_size = other.static_size;
-        self.places = other.places;
+        self.state = other.state;
     }
 
     /// The static bytes.
@@ -103,7 +103,7 @@ impl Heap {
         ensures passed { IfErr result (λ e. Passes (with_free_row self.old.lists) e.0) }
         ensures err { OnErr result (self.new ≡ self.old) }
     {
-        new_list(&mut self.pool, &mut self.fronts, &mut self.places, stride)
+        new_list(&mut self.pool, &mut self.fronts, &mut self.state, stride)
     }
 
     /// Gives a list another number of bytes, a multiple of its stride. The front of the list stays, and new bytes are 0.
@@ -117,18 +117,18 @@ impl Heap {
         ensures passed { IfErr result (λ e. Passes (with_length self.old.lists row bytes) e.0) }
         ensures err { OnErr result (self.new ≡ self.old) }
     {
-        let found = get(&self.pool, self.places.table, row);
+        let found = get(&self.pool, self.state.table, row);
         if byte_count(found) == bytes {
             return Ok(());
         }
-        let footprint = self.places.footprint as u64 - block_bytes(found) + round4(bytes as u64);
+        let footprint = self.state.footprint as u64 - block_bytes(found) + round4(bytes as u64);
         if footprint > POOL_BYTES {
             return Err(PoolPassed(footprint));
         }
         resize_list(
             &mut self.pool,
             &mut self.fronts,
-            &mut self.places,
+            &mut self.state,
             row,
             bytes,
         );
@@ -194,7 +194,7 @@ impl Heap {
         requires { IsAlive self.now.lists row }
         ensures { result ≡ length (bytes_at self.now.lists row) }
     {
-        byte_count(get(&self.pool, self.places.table, row))
+        byte_count(get(&self.pool, self.state.table, row))
     }
 
     // Stores the bytes of a list in another one that is as long.
@@ -205,7 +205,7 @@ impl Heap {
         ensures lists { self.new.lists ≡ with_bytes self.old.lists to 0 (bytes_at self.old.lists from) }
         ensures stay { RowsStay self.old.pool self.new.pool }
     {
-        copy_bytes(&mut self.pool, self.places.table, to, from);
+        copy_bytes(&mut self.pool, self.state.table, to, from);
     }
 
     /// Frees a list and its row.
@@ -214,7 +214,7 @@ impl Heap {
         ensures lists { self.new.lists ≡ with_list self.old.lists row None }
         ensures stay { OthersStay self.old.pool self.new.pool row }
     {
-        free_list(&mut self.pool, &mut self.fronts, &mut self.places, row);
+        free_list(&mut self.pool, &mut self.fronts, &mut self.state, row);
     }
 
     /// How many bytes the elements of a row's list are apart; `None` where the row has no list.
@@ -223,7 +223,7 @@ impl Heap {
         ensures stride { IfSome result (λ stride. stride ≡ stride_at self.now.lists row) }
         ensures none { result ≡ None → list_at self.now.lists row ≡ None }
     {
-        let table = self.places.table;
+        let table = self.state.table;
         if row == 0 || row >= get(&self.pool, table, 0).count {
             return None;
         }
@@ -236,7 +236,7 @@ impl Heap {
         requires { IsAlive self.now.lists row }
         ensures { result.now ≡ bytes_at self.now.lists row }
     {
-        row_bytes(&self.pool, self.places.table, row)
+        row_bytes(&self.pool, self.state.table, row)
     }
 
     /// Stores bytes of a list from a place on.
@@ -246,7 +246,7 @@ impl Heap {
         ensures lists { self.new.lists ≡ with_bytes self.old.lists row at bytes.now }
         ensures stay { RowsStay self.old.pool self.new.pool }
     {
-        write_bytes(&mut self.pool, self.places.table, row, at, bytes);
+        write_bytes(&mut self.pool, self.state.table, row, at, bytes);
     }
 
     /// Moves up to `k` of the lowest blocks that have a gap below down to the end of the block before, and gives the number
@@ -255,14 +255,14 @@ impl Heap {
         ensures lists { self.new.lists ≡ self.old.lists }
         ensures settles { Compacts (base_of self.old.lists) k self.old.pool.bytes self.new.pool.bytes self.old.pool.table self.new.pool.table result }
     {
-        settle(&mut self.pool, &mut self.fronts, &mut self.places, k)
+        settle(&mut self.pool, &mut self.fronts, &mut self.state, k)
     }
 
     /// How many blocks have a gap somewhere below them.
     pub fn unsettled(&self) -> u16
         ensures { result ≡ unsettled_in (base_of self.now.lists) (blocks_in self.now.pool.bytes self.now.pool.table) }
     {
-        unsettled(&self.pool, self.places.table, self.places.base)
+        unsettled(&self.pool, self.state.table, self.state.base)
     }
 
     /// The pool from its first byte to the end of the last block. Its rows read as the lists.
@@ -275,7 +275,7 @@ impl Heap {
         ensures length { IfOk result (λ bytes. length bytes ≡ greatest_end (blocks_in self.now.pool.bytes self.now.pool.table)) }
     {
         let mut bytes = Bytes::new(alloc);
-        bytes.append(&self.pool[..self.places.end as usize])?;
+        bytes.append(&self.pool[..self.state.end as usize])?;
         Ok(bytes)
     }
 
@@ -284,7 +284,7 @@ impl Heap {
         ensures whole { result ≡ footprint self.now.lists }
         ensures fits { result ≤ pool_size }
     {
-        self.places.footprint
+        self.state.footprint
     }
 
     /// How many rows the table has.
@@ -292,7 +292,7 @@ impl Heap {
         ensures rows { result ≡ length self.now.lists.by_row }
         ensures some { 1 ≤ result }
     {
-        get(&self.pool, self.places.table, 0).count
+        get(&self.pool, self.state.table, 0).count
     }
 
     /// What a heap holds is sound: the pool has 32,768 bytes, row 0 is the table's own, and no list, the pool's rows read as the
@@ -303,13 +303,13 @@ impl Heap {
         ensures apart { IsSound self.now.pool.bytes self.now.pool.table (base_of self.now.lists) }
         ensures size { length self.now.pool.bytes ≡ pool_size }
     {
-        let _end = self.places.end;
+        let _end = self.state.end;
     }
 
     /// Where the table stands in the pool, in bytes.
     pub fn table_place(&self) -> u32
         ensures { result ≡ self.now.pool.table }
     {
-        self.places.table
+        self.state.table
     }
 }

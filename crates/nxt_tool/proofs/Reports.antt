@@ -14,3 +14,5 @@ pub mod Images
 pub mod TextRuns
 -- What is due to a number.
 pub mod Generated
+-- What is due to a program that is run, by how it is written.
+pub mod Programs

@@ -11,7 +11,8 @@ use Rattle.nxt_script.specs.Rows.{rows}
 use Rattle.nxt_report.specs.Cut.{RanRows}
 use Rattle.nxt_tool.specs.Accepted.{IsAcceptedAs}
 use Rattle.nxt_tool.specs.declared.words.Command.{Command}
-use Rattle.nxt_tool.specs.declared.words.Command.TheVariants.{RunRxe, RunNbc, Assemble, Describe, Generate}
+use Rattle.nxt_tool.specs.declared.words.Command.TheVariants.{Run, Assemble, Describe, Generate}
+use Rattle.nxt_tool.specs.declared.words.Language.TheVariants.{Rxe, Nbc}
 
 -- a report of the first rows was written, and no last line
 pub record CutReport (s : Setting) (script : List ℕ) (left left' old new : Option (List ℕ)) : Type 0 where
@@ -25,8 +26,8 @@ pub record CutReport (s : Setting) (script : List ℕ) (left left' old new : Opt
 
 -- so it is of the program that a command runs
 abbrev pub CutRun : Command → List ℕ → List ℕ → Option (List ℕ) → Option (List ℕ) → Option (List ℕ) → Option (List ℕ) → Type 0
-CutRun (RunRxe effort) program script left left' old new = (image : Image) × IsAcceptedAs program image × CutReport (setting image effort) script left left' old new
-CutRun (RunNbc effort) program script left left' old new = (t : Text) × Spells program t × IsAccepted (assembler_rules.Broken t) × CutReport (text_setting t effort) script left left' old new
+CutRun (Run Rxe effort) program script left left' old new = (image : Image) × IsAcceptedAs program image × CutReport (setting image effort) script left left' old new
+CutRun (Run Nbc effort) program script left left' old new = (t : Text) × Spells program t × IsAccepted (assembler_rules.Broken t) × CutReport (text_setting t effort) script left left' old new
 CutRun Assemble program script left left' old new = ⊥
 CutRun (Describe d) program script left left' old new = ⊥
 CutRun (Generate n) program script left left' old new = ⊥

@@ -9,8 +9,10 @@ use Rattle.nxt_types.specs.Refusals.{IsAccepted}
 use Rattle.nxt_nbc.specs.Checked.{Spells}
 use Rattle.nxt_asm_rules.specs.AsmRules as assembler_rules
 use Rattle.nxt_tool.specs.declared.words.Command.{Command}
-use Rattle.nxt_tool.specs.declared.words.Command.TheVariants.{RunRxe, RunNbc, Assemble, Describe, Generate}
+use Rattle.nxt_tool.specs.declared.words.Command.TheVariants.{Run, Assemble, Describe, Generate}
 use Rattle.nxt_tool.specs.declared.words.Description.{Description}
+use Rattle.nxt_tool.specs.declared.words.Language.{Language}
+use Rattle.nxt_tool.specs.declared.words.Language.TheVariants.{Rxe, Nbc}
 use Rattle.nxt_tool.specs.Words.{command_of, program_word}
 use Rattle.nxt_tool.specs.Accepted.{IsAcceptedAs, IsRefused, IsDescribed, refused_line}
 use Rattle.nxt_tool.specs.Assembling.{IsAssembled, IsGenerated, IsRefusedText}
@@ -110,18 +112,22 @@ OfFile bytes go a =
 abbrev pub Within : List ℕ → (List ℕ → Answer → Type 0) → Answer → Type 0
 Within program go a = MatchBool (nat_lt most_program_bytes (length program)) (a ≡ answer statuses.TooLarge [] []) (go program a)
 
--- an answer to a program and a script, with an effort
-abbrev pub Run : ℕ → List ℕ → List ℕ → Answer → Type 0
-Run effort program script a = Within program (λ bytes. OfFile bytes (λ image. RunOn image effort script)) a
+-- an answer to an image and a script, with an effort: the line of its first broken rule, or a report
+abbrev pub OnImage : ℕ → List ℕ → List ℕ → Answer → Type 0
+OnImage effort program script a = OfFile program (λ image. RunOn image effort script) a
 
--- an answer to a text and a script: the line of its first broken rule, or a report on what it spells
+-- and to a text and a script: the line of its first broken rule, or a report on what it spells
 abbrev pub OnText : ℕ → List ℕ → List ℕ → Answer → Type 0
 OnText effort text script a =
     ((r : Refusal) × IsRefusedText text r × (a ≡ refused_answer r))
     ⊎ ((t : Text) × Spells text t × IsAccepted (assembler_rules.Broken t) × RunOnText t effort script a)
 
-abbrev pub RunText : ℕ → List ℕ → List ℕ → Answer → Type 0
-RunText effort program script a = Within program (λ text. OnText effort text script) a
+abbrev pub OnProgram : Language → ℕ → List ℕ → List ℕ → Answer → Type 0
+OnProgram Rxe effort program script a = OnImage effort program script a
+OnProgram Nbc effort program script a = OnText effort program script a
+
+abbrev pub Runs : Language → ℕ → List ℕ → List ℕ → Answer → Type 0
+Runs language effort program script a = Within program (λ bytes. OnProgram language effort bytes script) a
 
 -- the answer to a program that is described: the line of its first broken rule, or what is told of it
 abbrev pub DescribedFile : Description → List ℕ → Answer → Type 0
@@ -150,8 +156,7 @@ Generated n a = (text : List ℕ) × IsGenerated n text × (a ≡ described_answ
 
 abbrev pub DueTo : Option Command → List ℕ → List ℕ → Answer → Type 0
 DueTo None program script a = a ≡ answer statuses.Words [] []
-DueTo (Some (RunRxe effort)) program script a = Run effort program script a
-DueTo (Some (RunNbc effort)) program script a = RunText effort program script a
+DueTo (Some (Run language effort)) program script a = Runs language effort program script a
 DueTo (Some Assemble) program script a = Assembles program a
 DueTo (Some (Describe d)) program script a = Describes d program a
 DueTo (Some (Generate n)) program script a = Generated n a
@@ -177,10 +182,13 @@ pub record AcceptsText (program : List ℕ) : Type 0 where
   pub spelled : Spells program text
   pub kept : IsAccepted (assembler_rules.Broken text)
 
--- behind them the script is read
+abbrev pub AcceptsProgram : Language → List ℕ → Type 0
+AcceptsProgram Rxe program = AcceptsImage program
+AcceptsProgram Nbc program = AcceptsText program
+
+-- behind such a program the script is read
 abbrev pub ReadsScript : Command → List ℕ → Type 0
-ReadsScript (RunRxe effort) program = AcceptsImage program
-ReadsScript (RunNbc effort) program = AcceptsText program
+ReadsScript (Run language effort) program = AcceptsProgram language program
 ReadsScript Assemble program = ⊥
 ReadsScript (Describe d) program = ⊥
 ReadsScript (Generate n) program = ⊥

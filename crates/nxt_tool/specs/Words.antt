@@ -3,8 +3,9 @@ use Rattle.std.specs.Prelude.{ℕ, ◌-◌, List, [], ◌∷◌, map, length, co
 use Rattle.std.specs.declared.alloc.Global.{Global}
 use Rattle.nxt_script.specs.RowForms.{number_in, up_to}
 use Rattle.nxt_tool.specs.declared.words.Command.{Command}
-use Rattle.nxt_tool.specs.declared.words.Command.TheVariants.{RunRxe, RunNbc, Assemble, Describe, Generate}
+use Rattle.nxt_tool.specs.declared.words.Command.TheVariants.{Run, Assemble, Describe, Generate}
 use Rattle.nxt_tool.specs.declared.words.Description.TheVariants.{Footprint, Listing}
+use Rattle.nxt_tool.specs.declared.words.Language.TheVariants.{Rxe, Nbc}
 
 -- a number of 32 bits, from which a program is made
 abbrev pub generate_of : List ℕ → Option Command
@@ -17,8 +18,8 @@ effort_of number = if nat_le (length number) 3 then option_map nat_abs (number_i
 -- what is run, with an effort
 abbrev pub run_of : ℕ → List ℕ → Option Command
 run_of effort kind =
-    if bytes_eq kind (codes "rxe") then Some (RunRxe effort)
-    else if bytes_eq kind (codes "nbc") then Some (RunNbc effort)
+    if bytes_eq kind (codes "rxe") then Some (Run Rxe effort)
+    else if bytes_eq kind (codes "nbc") then Some (Run Nbc effort)
     else None
 
 -- what follows `run`: `rxe` or `nbc`, the name of an image or a text, and a script's name; before them may stand `--effort` and a
@@ -43,15 +44,13 @@ command_of (a ∷ more) = if bytes_eq a (codes "run") then run_command more else
 -- where the names of files stand among so many words: those of a run are the last two
 abbrev pub program_word : ℕ → Option Command → Option ℕ
 program_word count None = None
-program_word count (Some (RunRxe effort)) = Some (count - 2)
-program_word count (Some (RunNbc effort)) = Some (count - 2)
+program_word count (Some (Run language effort)) = Some (count - 2)
 program_word count (Some Assemble) = Some 1
 program_word count (Some (Describe d)) = Some 1
 program_word count (Some (Generate n)) = None
 
 abbrev pub script_word : ℕ → Option Command → Option ℕ
-script_word count (Some (RunRxe effort)) = Some (count - 1)
-script_word count (Some (RunNbc effort)) = Some (count - 1)
+script_word count (Some (Run language effort)) = Some (count - 1)
 script_word count _ = None
 
 abbrev pub image_word : Option Command → Option ℕ

@@ -1,19 +1,22 @@
-ghost use Rattle.std.specs.Prelude.{◌≡◌, ◌⊎◌, ◌↔◌, ℕ, ◌≤◌, List, [], Option, Some, None};
+ghost use Rattle.std.specs.Prelude.{◌≡◌, ◌⊎◌, ◌↔◌, ℕ, ◌≤◌, List, [], Option, Some, None, length, IfOk, MatchResult};
 ghost use Rattle.nxt_edge.specs.Edge.{Rose, AreBytes};
-ghost use Rattle.nxt_tool.specs.Due.{Answer, Ended, Meets, read_status, fault_status, assembled_answer, refused_answer, described_answer, Run, RunText, Describes, Assembles, Generated, Due, UsesProgram, ReadsScript, UsesScript, Accepts, Images, MayReadScript, MayWriteImage, Answers, IsQuiet, NotRefused};
+ghost use Rattle.nxt_tool.specs.Due.{Answer, Ended, Meets, read_status, fault_status, assembled_answer, refused_answer, described_answer, Runs, Describes, Assembles, Generated, Due, UsesProgram, ReadsScript, UsesScript, Accepts, Images, MayReadScript, MayWriteImage, Answers, IsQuiet, NotRefused};
 ghost use Rattle.nxt_report.specs.Cut.{CutText};
 ghost use Rattle.nxt_model.specs.Compaction.{CompactionChangesDumpsAlone};
 ghost use Rattle.nxt_script.specs.Rows.{rows as rows_of};
 ghost use Rattle.nxt_tool.specs.Cut.{CutRun};
 ghost use Rattle.nxt_tool.specs.Words.{command_of, texts_of};
 ghost use Rattle.nxt_tool.specs.declared.words.Command.{Command};
-ghost use Rattle.nxt_tool.specs.declared.words.Command.TheVariants.{RunRxe, RunNbc};
+ghost use Rattle.nxt_tool.specs.declared.words.Command.TheVariants.{Run};
+ghost use Rattle.nxt_tool.specs.Programs.{HasProgramCause, IsProgramOf};
+ghost use Rattle.nxt_model.specs.Image.{program_of};
+ghost use Rattle.nxt_model.specs.Program.{start};
 
 use crate::accepting::{accept, describe, refusal_line};
 use crate::assembling::{ImageFile, assemble_text, machine_of_text};
 use crate::fault::{AcceptFault, Refusal};
 use crate::generating::generate;
-use crate::words::{Command, Description, form_of};
+use crate::words::{Command, Description, Language, form_of};
 use nxt_edge::{ReadAllFault, Sink, Source, read_all};
 use nxt_machine::Machine;
 use nxt_report::{Fault, Status, put, run_script};
@@ -80,46 +83,38 @@ fn refuse<R: Sink>(alloc: Global, refusal: Refusal, report: &mut R) -> Status
     }
 }
 
-// Runs a script over an image.
-fn run<P: Source, Q: Source, R: Sink>(
+// The machine of a program at its start, or why there is none.
+fn machine_of_program(
     alloc: Global,
+    language: Language,
+    bytes: &[u8],
     effort: u8,
-    program: &mut P,
-    script: &mut Q,
-    report: &mut R,
-) -> Status
-    ensures told { (b s : List ℕ) → AreBytes b → P.left program.old ≡ Some b → (ReadsScript (RunRxe effort) b → Q.left script.old ≡ Some s) → (a : Answer) × Run effort b s a × Meets result a (R.written report.old) (R.written report.new) }
-    ensures cut { (b s : List ℕ) → P.left program.old ≡ Some b → ReadsScript (RunRxe effort) b → Q.left script.old ≡ Some s → result ≡ Status.ReadFault → CutRun (RunRxe effort) b s (Q.left script.old) (Q.left script.new) (R.written report.old) (R.written report.new) }
-    ensures read { result ≡ Status.ReadFault → Rose (P.faults program.old) (P.faults program.new) ⊎ (Accepts (RunRxe effort) (P.left program.old) × Rose (Q.faults script.old) (Q.faults script.new)) }
-    ensures write { result ≡ Status.WriteFault → Rose (R.faults report.old) (R.faults report.new) }
-    ensures unread { (Accepts (RunRxe effort) (P.left program.old) → ⊥) → script.new ≡ script.old }
-    ensures words { result ≡ Status.Words → ⊥ }
-    ensures later { (P.faults program.old ≤ P.faults program.new) × (Q.faults script.old ≤ Q.faults script.new) × (R.faults report.old ≤ R.faults report.new) }
+) -> Result<Machine, AcceptFault>
+    requires { length bytes.now ≤ 16777216 }
+    ensures start { IfOk result (λ m. m.state ≡ start (program_of m.image)) }
+    ensures effort { IfOk result (λ m. m.effort ≡ effort) }
+    ensures accepted { MatchResult result (λ m. IsProgramOf language bytes.now m.image) (HasProgramCause language bytes.now) }
 {
-    let bytes = match read_all(alloc, program, MOST_PROGRAM) {
-        Ok(bytes) => bytes,
-        Err(fault) => return of_read(fault),
-    };
-    match accept(alloc, bytes.as_slice(), effort) {
-        Ok(machine) => run_program(alloc, machine, script, report),
-        Err(AcceptFault::NoMemory) => Status::NoMemory,
-        Err(AcceptFault::Refused(refusal)) => refuse(alloc, refusal, report),
+    match language {
+        Language::Rxe => accept(alloc, bytes, effort),
+        Language::Nbc => machine_of_text(alloc, bytes, effort),
     }
 }
 
-// Runs a script over a text.
-fn run_text<P: Source, Q: Source, R: Sink>(
+// Runs a script over a program.
+fn run<P: Source, Q: Source, R: Sink>(
     alloc: Global,
+    language: Language,
     effort: u8,
     program: &mut P,
     script: &mut Q,
     report: &mut R,
 ) -> Status
-    ensures told { (b s : List ℕ) → AreBytes b → P.left program.old ≡ Some b → (ReadsScript (RunNbc effort) b → Q.left script.old ≡ Some s) → (a : Answer) × RunText effort b s a × Meets result a (R.written report.old) (R.written report.new) }
-    ensures cut { (b s : List ℕ) → P.left program.old ≡ Some b → ReadsScript (RunNbc effort) b → Q.left script.old ≡ Some s → result ≡ Status.ReadFault → CutRun (RunNbc effort) b s (Q.left script.old) (Q.left script.new) (R.written report.old) (R.written report.new) }
-    ensures read { result ≡ Status.ReadFault → Rose (P.faults program.old) (P.faults program.new) ⊎ (Accepts (RunNbc effort) (P.left program.old) × Rose (Q.faults script.old) (Q.faults script.new)) }
+    ensures told { (b s : List ℕ) → AreBytes b → P.left program.old ≡ Some b → (ReadsScript (Run language effort) b → Q.left script.old ≡ Some s) → (a : Answer) × Runs language effort b s a × Meets result a (R.written report.old) (R.written report.new) }
+    ensures cut { (b s : List ℕ) → P.left program.old ≡ Some b → ReadsScript (Run language effort) b → Q.left script.old ≡ Some s → result ≡ Status.ReadFault → CutRun (Run language effort) b s (Q.left script.old) (Q.left script.new) (R.written report.old) (R.written report.new) }
+    ensures read { result ≡ Status.ReadFault → Rose (P.faults program.old) (P.faults program.new) ⊎ (Accepts (Run language effort) (P.left program.old) × Rose (Q.faults script.old) (Q.faults script.new)) }
     ensures write { result ≡ Status.WriteFault → Rose (R.faults report.old) (R.faults report.new) }
-    ensures unread { (Accepts (RunNbc effort) (P.left program.old) → ⊥) → script.new ≡ script.old }
+    ensures unread { (Accepts (Run language effort) (P.left program.old) → ⊥) → script.new ≡ script.old }
     ensures words { result ≡ Status.Words → ⊥ }
     ensures later { (P.faults program.old ≤ P.faults program.new) × (Q.faults script.old ≤ Q.faults script.new) × (R.faults report.old ≤ R.faults report.new) }
 {
@@ -127,7 +122,7 @@ fn run_text<P: Source, Q: Source, R: Sink>(
         Ok(bytes) => bytes,
         Err(fault) => return of_read(fault),
     };
-    match machine_of_text(alloc, bytes.as_slice(), effort) {
+    match machine_of_program(alloc, language, bytes.as_slice(), effort) {
         Ok(machine) => run_program(alloc, machine, script, report),
         Err(AcceptFault::NoMemory) => Status::NoMemory,
         Err(AcceptFault::Refused(refusal)) => refuse(alloc, refusal, report),
@@ -245,8 +240,9 @@ fn answer<P: Source, Q: Source, I: Sink, R: Sink>(
     ensures later { (P.faults program.old ≤ P.faults program.new) × (Q.faults script.old ≤ Q.faults script.new) × (I.faults image.old ≤ I.faults image.new) × (R.faults report.old ≤ R.faults report.new) }
 {
     match form_of(words) {
-        Some(Command::RunRxe(effort)) => run(alloc, effort, program, script, report),
-        Some(Command::RunNbc(effort)) => run_text(alloc, effort, program, script, report),
+        Some(Command::Run(language, effort)) => {
+            run(alloc, language, effort, program, script, report)
+        }
         Some(Command::Assemble) => assemble_file(alloc, program, image, report),
         Some(Command::Describe(description)) => {
             describe_file(alloc, description, program, report)

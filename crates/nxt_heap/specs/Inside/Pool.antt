@@ -9,7 +9,7 @@ use Rattle.nxt_blocks.specs.Standing.{IsApart}
 use Rattle.nxt_rows.specs.Rows.{dope_row, row_count, free_rows, IsFreeChain, no_place, empty_row_of}
 use Rattle.nxt_rows.specs.declared.DopeRow.{DopeRow}
 use Rattle.nxt_compact.specs.Pools.{block_bytes, block_of, blocks_in, IsFull, IsSound, Moves}
-use Rattle.nxt_heap.specs.declared.blocks.Places.{Places}
+use Rattle.nxt_heap.specs.declared.blocks.BlockState.{BlockState}
 use Rattle.nxt_heap.specs.Moves.{holds_behind, IsLowestHole, OthersStay, RowsStay}
 use Rattle.nxt_heap.specs.Lists.{ByteList, Lists, Pool, HeapViews, of_length, with_length, IsFree, with_free, any_free, empty_list}
 
@@ -35,7 +35,7 @@ abbrev pub state_of : ℕ → Pool → Lists
 state_of static_size p = record { static_bytes = take static_size p.bytes; by_row = lists_in p.bytes p.table }
 
 -- the pool as callers see it
-abbrev pub pool_at : List ℕ → Places → Pool
+abbrev pub pool_at : List ℕ → BlockState → Pool
 pool_at pool p = record { bytes = pool; table = p.table }
 
 -- both views of a pool behind so many static bytes
@@ -175,7 +175,7 @@ pub record IsSearched (pool : List ℕ) (table base searched sought : ℕ) : Typ
   pub none : (at : ℕ) → base ≤ at → at < searched → IsHole pool table at sought → ⊥
 
 -- the places fit the pool and its fronts
-pub record AreBlocks (pool fronts : List ℕ) (p : Places) : Type 0 where
+pub record AreBlocks (pool fronts : List ℕ) (p : BlockState) : Type 0 where
   pub is_pool : IsPool pool p.table p.base
   pub word : p.base % 4 ≡ 0
   pub are_fronts : AreFronts pool p.table fronts
@@ -184,7 +184,7 @@ pub record AreBlocks (pool fronts : List ℕ) (p : Places) : Type 0 where
   pub searched : IsSearched pool p.table p.base p.searched p.sought
 
 -- a row's block stood at another place, where the last of all blocks ended at the end that is noted
-pub record HasMoved (pool : List ℕ) (p : Places) (row from : ℕ) : Type 0 where
+pub record HasMoved (pool : List ℕ) (p : BlockState) (row from : ℕ) : Type 0 where
   pub full : IsFull pool p.table row
   pub others : (q : ℕ) → IsFull pool p.table q → q ≢ row → (dope_row pool p.table q).place + block_bytes (dope_row pool p.table q) ≤ p.end
   pub apart : (q : ℕ) → IsFull pool p.table q → q ≢ row → IsApart (record { place = from; bytes = block_bytes (dope_row pool p.table row) }) (block_of pool p.table q)
@@ -194,14 +194,14 @@ pub record HasMoved (pool : List ℕ) (p : Places) (row from : ℕ) : Type 0 whe
       ⊎ ((q : ℕ) × IsFull pool p.table q × ((dope_row pool p.table q).place + block_bytes (dope_row pool p.table q) ≡ p.end))
 
 -- the blocks moved, and nothing else has changed
-pub record BlocksMove (old fronts_old new fronts_new : List ℕ) (p q : Places) (to : ℕ → ℕ) : Type 0 where
+pub record BlocksMove (old fronts_old new fronts_new : List ℕ) (p q : BlockState) (to : ℕ → ℕ) : Type 0 where
   pub blocks : AreBlocks new fronts_new q
   pub moves : Moves p.base to old new p.table q.table
   pub base : q.base ≡ p.base
   pub footprint : q.footprint ≡ p.footprint
 
 -- a row's block has room at a place, and others moved only at need
-pub record MakesRoom (old new : List ℕ) (p q : Places) (row bytes place : ℕ) : Type 0 where
+pub record MakesRoom (old new : List ℕ) (p q : BlockState) (row bytes place : ℕ) : Type 0 where
   pub behind : holds_behind p.base (pool_at old p) row bytes ≡ true → OthersStay (pool_at old p) (pool_at new q) row × (place ≡ (dope_row old p.table row).place)
   pub hole : (at : ℕ) → holds_behind p.base (pool_at old p) row bytes ≡ false → IsLowestHole p.base (pool_at old p) bytes at → OthersStay (pool_at old p) (pool_at new q) row × (place ≡ at)
   pub order : (r s : ℕ) → IsFull old p.table r → IsFull old p.table s → r ≢ row → s ≢ row → (dope_row old p.table r).place < (dope_row old p.table s).place → (dope_row new q.table r).place < (dope_row new q.table s).place
@@ -227,7 +227,7 @@ abbrev pub with_length_in : List (Option ByteList) → ℕ → ℕ → List (Opt
 with_length_in lists row bytes = (with_length (record { static_bytes = []; by_row = lists }) row bytes).by_row
 
 -- the row's list has so many bytes, and the others are as they were
-pub record HasLength (old new fronts : List ℕ) (p q : Places) (row bytes : ℕ) : Type 0 where
+pub record HasLength (old new fronts : List ℕ) (p q : BlockState) (row bytes : ℕ) : Type 0 where
   pub blocks : AreBlocks new fronts q
   pub base : q.base ≡ p.base
   pub lists : lists_in new q.table ≡ with_length_in (lists_in old p.table) row bytes
@@ -243,7 +243,7 @@ pub record AddsRow (old new : List ℕ) (table stride : ℕ) : Type 0 where
   pub outside : (k : ℕ) → (k < table) ⊎ (table + 10 * (row_count old table + 1) ≤ k) → slice_index new k ≡ slice_index old k
 
 -- the table has a row more, and the lists are as they were
-pub record HasRow (old new fronts : List ℕ) (p q : Places) (stride : ℕ) : Type 0 where
+pub record HasRow (old new fronts : List ℕ) (p q : BlockState) (stride : ℕ) : Type 0 where
   pub blocks : AreBlocks new fronts q
   pub base : q.base ≡ p.base
   pub lists : lists_in new q.table ≡ lists_in old p.table ++ empty_list stride ∷ []
@@ -251,7 +251,7 @@ pub record HasRow (old new fronts : List ℕ) (p q : Places) (stride : ℕ) : Ty
   pub footprint : q.footprint + round4 (10 * row_count old p.table) ≡ p.footprint + round4 (10 * (row_count old p.table + 1))
 
 -- the row's list is freed
-pub record Frees (old new fronts : List ℕ) (p q : Places) (row : ℕ) : Type 0 where
+pub record Frees (old new fronts : List ℕ) (p q : BlockState) (row : ℕ) : Type 0 where
   pub blocks : AreBlocks new fronts q
   pub base : q.base ≡ p.base
   pub lists : lists_in new q.table ≡ slice_set (lists_in old p.table) row None
@@ -259,7 +259,7 @@ pub record Frees (old new fronts : List ℕ) (p q : Places) (row : ℕ) : Type 0
   pub stay : OthersStay (pool_at old p) (pool_at new q) row
 
 -- a row is taken for an empty list
-pub record Takes (old new fronts : List ℕ) (p q : Places) (stride row : ℕ) : Type 0 where
+pub record Takes (old new fronts : List ℕ) (p q : BlockState) (stride row : ℕ) : Type 0 where
   pub blocks : AreBlocks new fronts q
   pub base : q.base ≡ p.base
   pub free : IsFree (with_free (lists_in old p.table)) row
@@ -267,19 +267,19 @@ pub record Takes (old new fronts : List ℕ) (p q : Places) (stride row : ℕ) :
   pub below : (k : ℕ) → k < p.base → slice_index new k ≡ slice_index old k
 
 -- no row is free, and the pool does not hold another one
-pub record IsRefused (pool : List ℕ) (p : Places) (f : ℕ) : Type 0 where
+pub record IsRefused (pool : List ℕ) (p : BlockState) (f : ℕ) : Type 0 where
   pub full : any_free (lists_in pool p.table) ≡ false
   pub whole : f + round4 (10 * row_count pool p.table) ≡ p.footprint + round4 (10 * (row_count pool p.table + 1))
   pub above : pool_size < f
 
 -- bytes are stored in the row's list from a place on, and all rows stay
 pub record Stores (old new : List ℕ) (table row at : ℕ) (bytes : List ℕ) : Type 0 where
-  pub blocks : (fronts : List ℕ) (p : Places) → table ≡ p.table → AreBlocks old fronts p → AreBlocks new fronts p
+  pub blocks : (fronts : List ℕ) (p : BlockState) → table ≡ p.table → AreBlocks old fronts p → AreBlocks new fronts p
   pub lists : lists_in new table ≡ lists_with_bytes old table row at bytes
-  pub below : (fronts : List ℕ) (p : Places) → table ≡ p.table → AreBlocks old fronts p → (k : ℕ) → k < p.base → slice_index new k ≡ slice_index old k
+  pub below : (fronts : List ℕ) (p : BlockState) → table ≡ p.table → AreBlocks old fronts p → (k : ℕ) → k < p.base → slice_index new k ≡ slice_index old k
   pub stay : RowsStay (record { bytes = old; table = table }) (record { bytes = new; table = table })
 
 -- the fields of a heap fit one another
-pub record IsHeap (static_size : ℕ) (p : Places) (pool fronts : List ℕ) : Type 0 where
+pub record IsHeap (static_size : ℕ) (p : BlockState) (pool fronts : List ℕ) : Type 0 where
   pub blocks : AreBlocks pool fronts p
   pub base_is : p.base ≡ round4 static_size

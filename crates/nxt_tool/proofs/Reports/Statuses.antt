@@ -9,10 +9,11 @@ use Rattle.nxt_edge.specs.declared.read_write.ReadAllFault.{ReadAllFault}
 use Rattle.nxt_edge.specs.declared.read_write.ReadAllFault.TheVariants.{Failed, TooLarge, NoMemory}
 use Rattle.nxt_edge.proofs.Laws.{Appends-none}
 use Rattle.nxt_model.specs.Image.{Image}
-use Rattle.nxt_tool.specs.Due.{Answer, answer, Meets, RunOn, read_status, refused_answer, described_answer, OfFile, Run, DescribedFile, Describes, DueTo, Due, Answers}
+use Rattle.nxt_tool.specs.Due.{Answer, answer, Meets, RunOn, read_status, refused_answer, described_answer, OnImage, Runs, DescribedFile, Describes, DueTo, Due, Answers}
 use Rattle.nxt_tool.specs.declared.words.Command.{Command}
 use Rattle.nxt_tool.specs.declared.words.Description.{Description}
 use Rattle.nxt_tool.specs.declared.words.Description.TheVariants.{Footprint, Listing}
+use Rattle.nxt_tool.specs.declared.words.Language.TheVariants.{Rxe}
 use Rattle.nxt_tool.specs.Words.{command_of}
 use Rattle.nxt_tool.specs.Accepted.{BreaksNone, IsRun, IsSound, IsAcceptedAs, IsRefused, IsDescribed, accepted_line, code_in}
 use Rattle.nxt_tool.specs.declared.fault.Refusal.{Refusal}
@@ -95,19 +96,19 @@ too_large false go e = absurd (let f : ⊥ = cc in f)
 
 module _ (effort : ℕ) where
   -- the line of a refused program is due
-  pub refused_run : (program script : List ℕ) (r : Refusal) → length program ≤ 262144 → IsRefused program r → Run effort program script (refused_answer r)
+  pub refused_run : (program script : List ℕ) (r : Refusal) → length program ≤ 262144 → IsRefused program r → Runs Rxe effort program script (refused_answer r)
   refused_run program script r few refused =
       within_by (nat_lt 262144 (length program)) (refused_answer r) _ (short_program program few) (inl (r, refused, refl))
 
   -- what is due to a script on an accepted program is due
-  pub accepted_run : (program script : List ℕ) (image : Image) (a : Answer) → length program ≤ 262144 → IsAcceptedAs program image → RunOn image effort script a → Run effort program script a
+  pub accepted_run : (program script : List ℕ) (image : Image) (a : Answer) → length program ≤ 262144 → IsAcceptedAs program image → RunOn image effort script a → Runs Rxe effort program script a
   accepted_run program script image a few accepted on =
       within_by (nat_lt 262144 (length program)) a _ (short_program program few) (inr (image, accepted, on))
 
-  abbrev OnProgram : List ℕ → List ℕ → Type 0
-  OnProgram program script = (a : Answer) × OfFile program (λ image. RunOn image effort script) a
+  abbrev SomeAnswer : List ℕ → List ℕ → Type 0
+  SomeAnswer program script = (a : Answer) × OnImage effort program script a
 
-  on_accepted : (program script : List ℕ) (p : Parts) (ss : Members) → IsFile program p → BreaksNone p ss → OnProgram program script
+  on_accepted : (program script : List ℕ) (p : Parts) (ss : Members) → IsFile program p → BreaksNone p ss → SomeAnswer program script
   on_accepted program script p ss file sound =
       let start = some_start p ss sound.layout sound.shapes in
       let image = image_of p ss start.0 in
@@ -116,49 +117,49 @@ module _ (effort : ℕ) where
       (some.0, inr (image, (p, file, run), some.1))
 
   by_code : (program script : List ℕ) (p : Parts) (ss : Members) → IsFile program p → IsAccepted (layout_rules.Broken p) → HasShapes p ss →
-      ((f : CodeFault) × IsRefusal (code_rules.Broken (code_in p ss)) code_rules.rank f) ⊎ IsAccepted (code_rules.Broken (code_in p ss)) → OnProgram program script
+      ((f : CodeFault) × IsRefusal (code_rules.Broken (code_in p ss)) code_rules.rank f) ⊎ IsAccepted (code_rules.Broken (code_in p ss)) → SomeAnswer program script
   by_code program script p ss file layout shapes (inl found) =
       (refused_answer (refusals.Code found.0), inl (refusals.Code found.0, (p, file, (layout, ss, shapes, found.1)), refl))
   by_code program script p ss file layout shapes (inr code) =
       on_accepted program script p ss file (record { layout = layout; shapes = shapes; code = code })
 
-  by_layout : (program script : List ℕ) (p : Parts) → IsFile program p → ((f : LayoutFault) × IsRefusal (layout_rules.Broken p) layout_rules.rank f) ⊎ (IsAccepted (layout_rules.Broken p) × (ss : Members) × HasShapes p ss) → OnProgram program script
+  by_layout : (program script : List ℕ) (p : Parts) → IsFile program p → ((f : LayoutFault) × IsRefusal (layout_rules.Broken p) layout_rules.rank f) ⊎ (IsAccepted (layout_rules.Broken p) × (ss : Members) × HasShapes p ss) → SomeAnswer program script
   by_layout program script p file (inl found) = (refused_answer (refusals.Layout found.0), inl (refusals.Layout found.0, (p, file, found.1), refl))
   by_layout program script p file (inr found) = by_code program script p found.1 file found.0 found.2 (code_or_refusal (code_in p found.1))
 
-  by_file : (program script : List ℕ) → ((f : RxeFault) × IsRefusal (Broken program) rank f) ⊎ ((p : Parts) × IsFile program p) → OnProgram program script
+  by_file : (program script : List ℕ) → ((f : RxeFault) × IsRefusal (Broken program) rank f) ⊎ ((p : Parts) × IsFile program p) → SomeAnswer program script
   by_file program script (inl found) = (refused_answer (refusals.Sections found.0), inl (refusals.Sections found.0, found.1, refl))
   by_file program script (inr found) =
       by_layout program script found.0 found.1 (layout_or_refusal found.0)
 
-  by_length : (long : Bool) (program script : List ℕ) → AreBytes program → (a : Answer) × MatchBool long (a ≡ answer status.TooLarge [] []) (OfFile program (λ image. RunOn image effort script) a)
+  by_length : (long : Bool) (program script : List ℕ) → AreBytes program → (a : Answer) × MatchBool long (a ≡ answer status.TooLarge [] []) (OnImage effort program script a)
   by_length true program script bytes = (answer status.TooLarge [] [], refl)
   by_length false program script bytes = by_file program script (file_or_refusal program bytes)
 
   -- some answer is due to every program and script
-  pub some_run : (program script : List ℕ) → AreBytes program → (a : Answer) × Run effort program script a
+  pub some_run : (program script : List ℕ) → AreBytes program → (a : Answer) × Runs Rxe effort program script a
   some_run program script bytes = by_length (nat_lt 262144 (length program)) program script bytes
 
   -- nothing is written where a program isn't read to its end
   pub unread_run : (fault : ReadAllFault) (program script : List ℕ) (w : Option (List ℕ)) → AreBytes program → (fault ≡ TooLarge → nat_lt 262144 (length program) ≡ true) →
-      (a : Answer) × Run effort program script a × Meets (read_status fault) a w w
+      (a : Answer) × Runs Rxe effort program script a × Meets (read_status fault) a w w
   unread_run Failed program script w bytes long = let due = some_run program script bytes in (due.0, due.1, nothing_yet w due.0.report)
   unread_run NoMemory program script w bytes long = let due = some_run program script bytes in (due.0, due.1, nothing_yet w due.0.report)
   unread_run TooLarge program script w bytes long = (answer status.TooLarge [] [], too_large (nat_lt 262144 (length program)) _ (long refl), (refl, Appends-none w))
 
-  pub no_memory_run : (program script : List ℕ) (w : Option (List ℕ)) → AreBytes program → (a : Answer) × Run effort program script a × Meets status.NoMemory a w w
+  pub no_memory_run : (program script : List ℕ) (w : Option (List ℕ)) → AreBytes program → (a : Answer) × Runs Rxe effort program script a × Meets status.NoMemory a w w
   no_memory_run program script w bytes = let due = some_run program script bytes in (due.0, due.1, nothing_yet w due.0.report)
 
   -- no image text is due to a run
-  no_image_of : (program script : List ℕ) (a : Answer) → OfFile program (λ image. RunOn image effort script) a → a.image ≡ []
+  no_image_of : (program script : List ℕ) (a : Answer) → OnImage effort program script a → a.image ≡ []
   no_image_of program script a (inl refused) = ap (λ (x : Answer). x.image) refused.2
   no_image_of program script a (inr accepted) = ap (λ (x : Answer). x.image) accepted.2.2
 
-  no_image_by : (long : Bool) (program script : List ℕ) (a : Answer) → MatchBool long (a ≡ answer status.TooLarge [] []) (OfFile program (λ image. RunOn image effort script) a) → a.image ≡ []
+  no_image_by : (long : Bool) (program script : List ℕ) (a : Answer) → MatchBool long (a ≡ answer status.TooLarge [] []) (OnImage effort program script a) → a.image ≡ []
   no_image_by true program script a due = ap (λ (x : Answer). x.image) due
   no_image_by false program script a due = no_image_of program script a due
 
-  pub no_image : (program script : List ℕ) (a : Answer) → Run effort program script a → a.image ≡ []
+  pub no_image : (program script : List ℕ) (a : Answer) → Runs Rxe effort program script a → a.image ≡ []
   no_image program script a due = no_image_by (nat_lt 262144 (length program)) program script a due
 
 -- ---- descriptions

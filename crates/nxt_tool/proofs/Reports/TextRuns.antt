@@ -15,7 +15,8 @@ use Rattle.nxt_asm_rules.specs.AsmRules.{Broken}
 use Rattle.nxt_asm_rules.proofs.Laws.Decided.{Judged, image_or_refusal}
 use Rattle.nxt_report.specs.declared.status.Status.TheVariants as status
 use Rattle.nxt_tool.specs.Assembling.{IsRefusedText}
-use Rattle.nxt_tool.specs.Due.{Answer, Meets, OnText, RunOn, RunOnText, RunText, answer, read_status, refused_answer}
+use Rattle.nxt_tool.specs.Due.{Answer, Meets, OnText, RunOn, RunOnText, Runs, answer, read_status, refused_answer}
+use Rattle.nxt_tool.specs.declared.words.Language.TheVariants.{Nbc}
 use Rattle.nxt_tool.specs.declared.fault.Refusal.{Refusal}
 use Rattle.nxt_tool.specs.declared.fault.Refusal.TheVariants as refusals
 use Rattle.nxt_tool.proofs.Reports.Ends.{some_on}
@@ -46,7 +47,7 @@ decided_run effort text script (inl found) =
 decided_run effort text script (inr found) = spelled_run effort text script found.0 found.1 (image_or_refusal found.0)
 
 -- some answer is due to every text and script
-some_text_run : (effort : ℕ) (program script : List ℕ) → (a : Answer) × RunText effort program script a
+some_text_run : (effort : ℕ) (program script : List ℕ) → (a : Answer) × Runs Nbc effort program script a
 some_text_run effort program script = by (nat_lt 262144 (length program))
   where
     by : (long : Bool) → (a : Answer) × MatchBool long (a ≡ answer status.TooLarge [] []) (OnText effort program script a)
@@ -54,23 +55,23 @@ some_text_run effort program script = by (nat_lt 262144 (length program))
     by false = decided_run effort program script (text_or_refusal program)
 
 -- the line of a refused text is due
-pub refused_text_run : (effort : ℕ) (program script : List ℕ) (r : Refusal) → length program ≤ 262144 → IsRefusedText program r → RunText effort program script (refused_answer r)
+pub refused_text_run : (effort : ℕ) (program script : List ℕ) (r : Refusal) → length program ≤ 262144 → IsRefusedText program r → Runs Nbc effort program script (refused_answer r)
 refused_text_run effort program script r few refused =
     within_by (nat_lt 262144 (length program)) (refused_answer r) _ (short_program program few) (inl (r, refused, refl))
 
 -- and what is due to a script on another
-pub spelled_text_run : (effort : ℕ) (program script : List ℕ) (t : Text) (a : Answer) → length program ≤ 262144 → Spells program t → IsAccepted (Broken t) → RunOnText t effort script a → RunText effort program script a
+pub spelled_text_run : (effort : ℕ) (program script : List ℕ) (t : Text) (a : Answer) → length program ≤ 262144 → Spells program t → IsAccepted (Broken t) → RunOnText t effort script a → Runs Nbc effort program script a
 spelled_text_run effort program script t a few spelled kept on =
     within_by (nat_lt 262144 (length program)) a _ (short_program program few) (inr (t, spelled, kept, on))
 
 -- nothing is written where a text isn't read to its end
 pub unread_text_run : (effort : ℕ) (fault : ReadAllFault) (program script : List ℕ) (w : Option (List ℕ)) → (fault ≡ TooLarge → nat_lt 262144 (length program) ≡ true)
-    → (a : Answer) × RunText effort program script a × Meets (read_status fault) a w w
+    → (a : Answer) × Runs Nbc effort program script a × Meets (read_status fault) a w w
 unread_text_run effort Failed program script w long = let due = some_text_run effort program script in (due.0, due.1, nothing_yet w due.0.report)
 unread_text_run effort NoMemory program script w long = let due = some_text_run effort program script in (due.0, due.1, nothing_yet w due.0.report)
 unread_text_run effort TooLarge program script w long = (answer status.TooLarge [] [], too_large (nat_lt 262144 (length program)) _ (long refl), (refl, Appends-none w))
 
-pub no_memory_text_run : (effort : ℕ) (program script : List ℕ) (w : Option (List ℕ)) → (a : Answer) × RunText effort program script a × Meets status.NoMemory a w w
+pub no_memory_text_run : (effort : ℕ) (program script : List ℕ) (w : Option (List ℕ)) → (a : Answer) × Runs Nbc effort program script a × Meets status.NoMemory a w w
 no_memory_text_run effort program script w = let due = some_text_run effort program script in (due.0, due.1, nothing_yet w due.0.report)
 
 -- no image is due
@@ -78,7 +79,7 @@ no_image_on : (effort : ℕ) (program script : List ℕ) (a : Answer) → OnText
 no_image_on effort program script a (inl refused) = ap (λ (x : Answer). x.image) refused.2
 no_image_on effort program script a (inr on) = ap (λ (x : Answer). x.image) on.3.2
 
-pub no_image_text : (effort : ℕ) (program script : List ℕ) (a : Answer) → RunText effort program script a → a.image ≡ []
+pub no_image_text : (effort : ℕ) (program script : List ℕ) (a : Answer) → Runs Nbc effort program script a → a.image ≡ []
 no_image_text effort program script a due = by (nat_lt 262144 (length program)) due
   where
     by : (long : Bool) → MatchBool long (a ≡ answer status.TooLarge [] []) (OnText effort program script a) → a.image ≡ []

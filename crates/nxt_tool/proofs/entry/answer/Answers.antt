@@ -2,57 +2,35 @@
 use Rattle.std.proofs.Common.{rules, ◌≡◌, refl, Some, None, [], inl, inr, ⊎_elim}
 use Rattle.nxt_tool.specs.Due.{answer}
 use Rattle.nxt_tool.specs.Words.{command_of, texts_of}
-use Rattle.nxt_tool.specs.declared.words.Command.TheVariants.{RunRxe, RunNbc, Assemble, Describe, Generate}
+use Rattle.nxt_tool.specs.declared.words.Command.TheVariants.{Run, Assemble, Describe, Generate}
 use Rattle.nxt_report.specs.declared.status.Status.TheVariants as status
-use Rattle.nxt_tool.proofs.Reports.Statuses.{unused, unwritten, no_image, no_image_description, due_to, no_words_answer}
-use Rattle.nxt_tool.proofs.Reports.TextRuns.{no_image_text}
+use Rattle.nxt_tool.proofs.Reports.Programs.{no_image_program}
+use Rattle.nxt_tool.proofs.Reports.Statuses.{unused, unwritten, no_image_description, due_to, no_words_answer}
 use Rattle.nxt_tool.proofs.Reports.Generated.{no_image_generated}
 use Rattle.nxt_tool.proofs.Reports.CutRuns.{reads_as}
 use Rattle.nxt_tool.proofs.entry.answer.Goals as goal
 
-pub returns-in-Some-RunRxe-clause-told : goal.returns-in-Some-RunRxe-clause-told
-returns-in-Some-RunRxe-clause-told g c = λ b s bytes program script.
+pub returns-in-Some-Run-clause-told : goal.returns-in-Some-Run-clause-told
+returns-in-Some-Run-clause-told g c = λ b s bytes program script.
     let words = texts_of c.args.words.now in
-    let form : command_of words ≡ Some (RunRxe c.in-Some-RunRxe.effort) = search rules in
-    let told = c.run.ensures.told b s bytes (program (search rules)) (λ reads. script (RunRxe c.in-Some-RunRxe.effort, form, reads)) in (
+    let form : command_of words ≡ Some (Run c.in-Some-Run.language c.in-Some-Run.effort) = search rules in
+    let told = c.run.ensures.told b s bytes (program (search rules)) (λ reads. script (Run c.in-Some-Run.language c.in-Some-Run.effort, form, reads)) in (
       told.0,
-      due_to words (Some (RunRxe c.in-Some-RunRxe.effort)) b s told.0 form told.1,
-      record { report_text = told.2; image_text = unused c.run.result told.0 _ _ _ (no_image c.in-Some-RunRxe.effort b s told.0 told.1) told.2; in_turn = inr (unwritten told.0 _ (no_image c.in-Some-RunRxe.effort b s told.0 told.1)) },
+      due_to words (Some (Run c.in-Some-Run.language c.in-Some-Run.effort)) b s told.0 form told.1,
+      record { report_text = told.2; image_text = unused c.run.result told.0 _ _ _ (no_image_program c.in-Some-Run.language c.in-Some-Run.effort b s told.0 told.1) told.2; in_turn = inr (unwritten told.0 _ (no_image_program c.in-Some-Run.language c.in-Some-Run.effort b s told.0 told.1)) },
     )
 
-pub returns-in-Some-RunRxe-clause-read : goal.returns-in-Some-RunRxe-clause-read
-returns-in-Some-RunRxe-clause-read g c = λ failed.
+pub returns-in-Some-Run-clause-read : goal.returns-in-Some-Run-clause-read
+returns-in-Some-Run-clause-read g c = λ failed.
     let words = texts_of c.args.words.now in
-    let form : command_of words ≡ Some (RunRxe c.in-Some-RunRxe.effort) = search rules in
-    ⊎_elim inl (λ rose. inr ((RunRxe c.in-Some-RunRxe.effort, form, rose.0), rose.1)) (c.run.ensures.read failed)
+    let form : command_of words ≡ Some (Run c.in-Some-Run.language c.in-Some-Run.effort) = search rules in
+    ⊎_elim inl (λ rose. inr ((Run c.in-Some-Run.language c.in-Some-Run.effort, form, rose.0), rose.1)) (c.run.ensures.read failed)
 
-pub returns-in-Some-RunRxe-clause-script : goal.returns-in-Some-RunRxe-clause-script
-returns-in-Some-RunRxe-clause-script g c = λ no.
+pub returns-in-Some-Run-clause-script : goal.returns-in-Some-Run-clause-script
+returns-in-Some-Run-clause-script g c = λ no.
     let words = texts_of c.args.words.now in
-    let form : command_of words ≡ Some (RunRxe c.in-Some-RunRxe.effort) = search rules in
-    c.run.ensures.unread (λ accepts. no (RunRxe c.in-Some-RunRxe.effort, form, accepts))
-
-pub returns-in-Some-RunNbc-clause-told : goal.returns-in-Some-RunNbc-clause-told
-returns-in-Some-RunNbc-clause-told g c = λ b s bytes program script.
-    let words = texts_of c.args.words.now in
-    let form : command_of words ≡ Some (RunNbc c.in-Some-RunNbc.effort) = search rules in
-    let told = c.run_text.ensures.told b s bytes (program (search rules)) (λ reads. script (RunNbc c.in-Some-RunNbc.effort, form, reads)) in (
-      told.0,
-      due_to words (Some (RunNbc c.in-Some-RunNbc.effort)) b s told.0 form told.1,
-      record { report_text = told.2; image_text = unused c.run_text.result told.0 _ _ _ (no_image_text c.in-Some-RunNbc.effort b s told.0 told.1) told.2; in_turn = inr (unwritten told.0 _ (no_image_text c.in-Some-RunNbc.effort b s told.0 told.1)) },
-    )
-
-pub returns-in-Some-RunNbc-clause-read : goal.returns-in-Some-RunNbc-clause-read
-returns-in-Some-RunNbc-clause-read g c = λ failed.
-    let words = texts_of c.args.words.now in
-    let form : command_of words ≡ Some (RunNbc c.in-Some-RunNbc.effort) = search rules in
-    ⊎_elim inl (λ rose. inr ((RunNbc c.in-Some-RunNbc.effort, form, rose.0), rose.1)) (c.run_text.ensures.read failed)
-
-pub returns-in-Some-RunNbc-clause-script : goal.returns-in-Some-RunNbc-clause-script
-returns-in-Some-RunNbc-clause-script g c = λ no.
-    let words = texts_of c.args.words.now in
-    let form : command_of words ≡ Some (RunNbc c.in-Some-RunNbc.effort) = search rules in
-    c.run_text.ensures.unread (λ accepts. no (RunNbc c.in-Some-RunNbc.effort, form, accepts))
+    let form : command_of words ≡ Some (Run c.in-Some-Run.language c.in-Some-Run.effort) = search rules in
+    c.run.ensures.unread (λ accepts. no (Run c.in-Some-Run.language c.in-Some-Run.effort, form, accepts))
 
 pub returns-in-Some-Assemble-clause-told : goal.returns-in-Some-Assemble-clause-told
 returns-in-Some-Assemble-clause-told g c = λ b s bytes program script.
@@ -103,17 +81,11 @@ returns-in-None-clause-told g c = λ b s bytes program script.
 
 -- ---- a fault of the script's source
 
-pub returns-in-Some-RunRxe-clause-cut : goal.returns-in-Some-RunRxe-clause-cut
-returns-in-Some-RunRxe-clause-cut g c = λ b s program uses script failed.
+pub returns-in-Some-Run-clause-cut : goal.returns-in-Some-Run-clause-cut
+returns-in-Some-Run-clause-cut g c = λ b s program uses script failed.
     let words = texts_of c.args.words.now in
-    let form : command_of words ≡ Some (RunRxe c.in-Some-RunRxe.effort) = search rules in
-    (RunRxe c.in-Some-RunRxe.effort, form, c.run.ensures.cut b s program (reads_as words b (RunRxe c.in-Some-RunRxe.effort) form uses) script failed)
-
-pub returns-in-Some-RunNbc-clause-cut : goal.returns-in-Some-RunNbc-clause-cut
-returns-in-Some-RunNbc-clause-cut g c = λ b s program uses script failed.
-    let words = texts_of c.args.words.now in
-    let form : command_of words ≡ Some (RunNbc c.in-Some-RunNbc.effort) = search rules in
-    (RunNbc c.in-Some-RunNbc.effort, form, c.run_text.ensures.cut b s program (reads_as words b (RunNbc c.in-Some-RunNbc.effort) form uses) script failed)
+    let form : command_of words ≡ Some (Run c.in-Some-Run.language c.in-Some-Run.effort) = search rules in
+    (Run c.in-Some-Run.language c.in-Some-Run.effort, form, c.run.ensures.cut b s program (reads_as words b (Run c.in-Some-Run.language c.in-Some-Run.effort) form uses) script failed)
 
 pub returns-in-Some-Assemble-clause-cut : goal.returns-in-Some-Assemble-clause-cut
 returns-in-Some-Assemble-clause-cut g c = λ b s program uses script failed.

@@ -8,43 +8,43 @@ use Rattle.nxt_heap.proofs.Changed.{shown, size_lived, after_bytes, still_heap}
 use Rattle.nxt_heap.specs.Moves.{RowsStay}
 use Rattle.nxt_heap.proofs.heap.Heap.copy.Goals as goal
 
-living : (c : goal.After-deref_mut) → Lives c.self.inside.pool.items c.self.inside.places.table c.args.to
-living c = lives c.self.inside.pool.items c.self.inside.places.table c.args.to (rw (← c.self.view_is) at c.requires.alive)
+living : (c : goal.After-deref_mut) → Lives c.self.inside.pool.items c.self.inside.state.table c.args.to
+living c = lives c.self.inside.pool.items c.self.inside.state.table c.args.to (rw (← c.self.view_is) at c.requires.alive)
 
-source : (c : goal.After-deref_mut) → Lives c.self.inside.pool.items c.self.inside.places.table c.args.from
-source c = lives c.self.inside.pool.items c.self.inside.places.table c.args.from (rw (← c.self.view_is) at c.requires.source)
+source : (c : goal.After-deref_mut) → Lives c.self.inside.pool.items c.self.inside.state.table c.args.from
+source c = lives c.self.inside.pool.items c.self.inside.state.table c.args.from (rw (← c.self.view_is) at c.requires.source)
 
 pub copy_bytes-requires-clause-blocks : goal.copy_bytes-requires-clause-blocks
-copy_bytes-requires-clause-blocks c = rw c.deref_mut.ensures.value (c.self.inside.fronts.items, c.self.inside.places, c.self.invariant.blocks, refl)
+copy_bytes-requires-clause-blocks c = rw c.deref_mut.ensures.value (c.self.inside.fronts.items, c.self.inside.state, c.self.invariant.blocks, refl)
 
 pub copy_bytes-requires-clause-list : goal.copy_bytes-requires-clause-list
 copy_bytes-requires-clause-list c =
-    rw c.deref_mut.ensures.value (list_row c.self.inside.pool.items c.self.inside.places.table c.args.to 0 (living c) (omega arith))
+    rw c.deref_mut.ensures.value (list_row c.self.inside.pool.items c.self.inside.state.table c.args.to 0 (living c) (omega arith))
 
 pub copy_bytes-requires-clause-source : goal.copy_bytes-requires-clause-source
 copy_bytes-requires-clause-source c =
-    rw c.deref_mut.ensures.value (list_row c.self.inside.pool.items c.self.inside.places.table c.args.from 0 (source c) (omega arith))
+    rw c.deref_mut.ensures.value (list_row c.self.inside.pool.items c.self.inside.state.table c.args.from 0 (source c) (omega arith))
 
 pub copy_bytes-requires-clause-fits : goal.copy_bytes-requires-clause-fits
 copy_bytes-requires-clause-fits c =
     let pool = c.self.inside.pool.items in
     let fronts = c.self.inside.fronts.items in
-    let p = c.self.inside.places in
+    let p = c.self.inside.state in
     let n = c.self.inside.static_size in
     let long = size_lived n pool fronts p c.args.to c.self.invariant (living c) in
     let short = size_lived n pool fronts p c.args.from c.self.invariant (source c) in
     rw c.deref_mut.ensures.value (omega (arith, long, short, rw (← c.self.view_is) at c.requires.long))
 
 stores : (c : goal.After-self-1)
-    → Stores c.self.inside.pool.items c.copy_bytes.new.pool c.self.inside.places.table c.args.to 0
-    (take (row_bytes (dope_row c.self.inside.pool.items c.self.inside.places.table c.args.from)) (drop (dope_row c.self.inside.pool.items c.self.inside.places.table c.args.from).place c.self.inside.pool.items))
+    → Stores c.self.inside.pool.items c.copy_bytes.new.pool c.self.inside.state.table c.args.to 0
+    (take (row_bytes (dope_row c.self.inside.pool.items c.self.inside.state.table c.args.from)) (drop (dope_row c.self.inside.pool.items c.self.inside.state.table c.args.from).place c.self.inside.pool.items))
 stores c = rw c.deref_mut.ensures.value at c.copy_bytes.ensures
 
 pub invariant_of-self : goal.invariant_of-self
 invariant_of-self c =
     let pool = c.self.inside.pool.items in
     let fronts = c.self.inside.fronts.items in
-    let p = c.self.inside.places in
+    let p = c.self.inside.state in
     let n = c.self.inside.static_size in
     let items = with_items_is c.self.inside.pool c.copy_bytes.new.pool (c.copy_bytes.auto.pool ∙ c.deref_mut.ensures.len) in
     rw items (still_heap n pool c.copy_bytes.new.pool fronts fronts p p c.self.invariant ((stores c).blocks fronts p refl c.self.invariant.blocks) refl)
@@ -53,7 +53,7 @@ pub returns-clause-lists : goal.returns-clause-lists
 returns-clause-lists c =
     let pool = c.self.inside.pool.items in
     let fronts = c.self.inside.fronts.items in
-    let p = c.self.inside.places in
+    let p = c.self.inside.state in
     let n = c.self.inside.static_size in
     let l = lives pool p.table c.args.to (rw (← c.self.view_is) at c.requires.alive) in
     let k = lives pool p.table c.args.from (rw (← c.self.view_is) at c.requires.source) in
@@ -68,4 +68,4 @@ returns-clause-lists c =
 pub returns-clause-stay : goal.returns-clause-stay
 returns-clause-stay c =
     let items = with_items_is c.self.inside.pool c.copy_bytes.new.pool (c.copy_bytes.auto.pool ∙ c.deref_mut.ensures.len) in
-    rw items (subst (λ h. RowsStay h.pool (record { bytes = c.copy_bytes.new.pool; table = c.self.inside.places.table })) c.self.view_is (stores c).stay)
+    rw items (subst (λ h. RowsStay h.pool (record { bytes = c.copy_bytes.new.pool; table = c.self.inside.state.table })) c.self.view_is (stores c).stay)

@@ -15,7 +15,7 @@ low c =
     omega (
       arith,
       c.requires,
-      length_static c.self.inside.static_size c.self.inside.pool.items c.self.inside.fronts.items c.self.inside.places c.self.invariant,
+      length_static c.self.inside.static_size c.self.inside.pool.items c.self.inside.fronts.items c.self.inside.state c.self.invariant,
       ap (λ h. length h.lists.static_bytes) c.self.view_is,
     )
 
@@ -23,7 +23,7 @@ pub put-requires : goal.put-requires
 put-requires c =
     let pool = c.self.inside.pool.items in
     let fronts = c.self.inside.fronts.items in
-    let p = c.self.inside.places in
+    let p = c.self.inside.state in
     let n = c.self.inside.static_size in
     rw c.deref_mut.ensures.value
     (below_inside pool fronts p c.self.invariant.blocks c.args.at c.args.bytes.now (omega (arith, low c, le-round4 n, c.self.invariant.base_is)))
@@ -32,7 +32,7 @@ pub invariant_of-self : goal.invariant_of-self
 invariant_of-self c =
     let pool = c.self.inside.pool.items in
     let fronts = c.self.inside.fronts.items in
-    let p = c.self.inside.places in
+    let p = c.self.inside.state in
     let n = c.self.inside.static_size in
     let bs = c.args.bytes.now in
     let fits : c.args.at + length bs ≤ p.base = omega (arith, c.requires, length_static n pool fronts p c.self.invariant, ap (λ h. length h.lists.static_bytes) c.self.view_is, le-round4 n, c.self.invariant.base_is) in
@@ -44,7 +44,7 @@ pub returns-clause-lists : goal.returns-clause-lists
 returns-clause-lists c =
     let pool = c.self.inside.pool.items in
     let fronts = c.self.inside.fronts.items in
-    let p = c.self.inside.places in
+    let p = c.self.inside.state in
     let n = c.self.inside.static_size in
     let bs = c.args.bytes.now in
     let low : c.args.at + length bs ≤ n = omega (arith, c.requires, length_static n pool fronts p c.self.invariant, ap (λ h. length h.lists.static_bytes) c.self.view_is) in
@@ -60,7 +60,7 @@ pub returns-clause-stay : goal.returns-clause-stay
 returns-clause-stay c =
     let pool = c.self.inside.pool.items in
     let fronts = c.self.inside.fronts.items in
-    let p = c.self.inside.places in
+    let p = c.self.inside.state in
     let n = c.self.inside.static_size in
     let bs = c.args.bytes.now in
     let fits : c.args.at + length bs ≤ p.base = omega (arith, c.requires, length_static n pool fronts p c.self.invariant, ap (λ h. length h.lists.static_bytes) c.self.view_is, le-round4 n, c.self.invariant.base_is) in

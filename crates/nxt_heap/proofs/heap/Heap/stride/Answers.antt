@@ -14,12 +14,12 @@ none_there (Some l) h = absurd (h refl)
 pub get-requires : goal.get-requires
 get-requires c =
     let is_pool = c.self.invariant.blocks.is_pool in
-    rw c.deref.ensures.value (row_inside c.self.inside.pool.items c.self.inside.places.table c.self.inside.places.base 0 is_pool is_pool.sound.some)
+    rw c.deref.ensures.value (row_inside c.self.inside.pool.items c.self.inside.state.table c.self.inside.state.base 0 is_pool is_pool.sound.some)
 
 pub get-stride-requires : goal.get-stride-requires
 get-stride-requires c =
     let pool = c.self.inside.pool.items in
-    let p = c.self.inside.places in
+    let p = c.self.inside.state in
     let count = ap (λ r. r.count) (rw c.deref.ensures.value at c.get.ensures) in
     let more = c.if-row-get.false in
     let within : c.args.row < row_count pool p.table = omega (arith, count, more) in
@@ -29,7 +29,7 @@ pub returns-then-row-eq0-clause-none : goal.returns-then-row-eq0-clause-none
 returns-then-row-eq0-clause-none c =
     λ none.
     none_there (list_at c.args.self.now.lists c.args.row) (λ some.
-    let l = lives c.self.inside.pool.items c.self.inside.places.table c.args.row (rw (← c.self.view_is) at some) in
+    let l = lives c.self.inside.pool.items c.self.inside.state.table c.args.row (rw (← c.self.view_is) at some) in
     let above = l.above in
     let within = l.within in
     elim c.then-row-eq0.branch [
@@ -44,7 +44,7 @@ pub returns-then-stride-eq0-clause-none : goal.returns-then-stride-eq0-clause-no
 returns-then-stride-eq0-clause-none c =
     λ none.
     none_there (list_at c.args.self.now.lists c.args.row) (λ some.
-    let l = lives c.self.inside.pool.items c.self.inside.places.table c.args.row (rw (← c.self.view_is) at some) in
+    let l = lives c.self.inside.pool.items c.self.inside.state.table c.args.row (rw (← c.self.view_is) at some) in
     let found = ap (λ r. r.stride) (rw c.deref-2.ensures.value at c.get-stride.ensures) in
     let zero = c.if-stride-eq0.true in
     let some_stride = l.stride in
@@ -53,7 +53,7 @@ returns-then-stride-eq0-clause-none c =
 pub returns-else-stride-eq0-clause-alive : goal.returns-else-stride-eq0-clause-alive
 returns-else-stride-eq0-clause-alive c =
     let pool = c.self.inside.pool.items in
-    let table = c.self.inside.places.table in
+    let table = c.self.inside.state.table in
     let count = ap (λ r. r.count) (rw c.deref.ensures.value at c.get.ensures) in
     let more = c.if-row-get.false in
     let above = c.if-row-eq0.false in
@@ -65,6 +65,6 @@ returns-else-stride-eq0-clause-alive c =
 pub returns-else-stride-eq0-clause-stride : goal.returns-else-stride-eq0-clause-stride
 returns-else-stride-eq0-clause-stride c =
     let some = returns-else-stride-eq0-clause-alive c in
-    let l = lives c.self.inside.pool.items c.self.inside.places.table c.args.row (rw (← c.self.view_is) at some) in
+    let l = lives c.self.inside.pool.items c.self.inside.state.table c.args.row (rw (← c.self.view_is) at some) in
     let found = ap (λ r. r.stride) (rw c.deref-2.ensures.value at c.get-stride.ensures) in
     found ∙ sym (ap stride_of l.is) ∙ ap (λ h. stride_at h.lists c.args.row) c.self.view_is

@@ -10,7 +10,7 @@ pub returns : goal.returns
 returns c =
     let pool = c.self.inside.pool.items in
     let fronts = c.self.inside.fronts.items in
-    let p = c.self.inside.places in
+    let p = c.self.inside.state in
     let n = c.self.inside.static_size in
     let base = c.self.invariant.base_is ∙ sym (ap round4 (length_static n pool fronts p c.self.invariant)) in
     (rw c.deref.ensures.value at c.unsettled.ensures)
