@@ -7,7 +7,7 @@ use std::alloc::Global;
 use std::test::Fail;
 
 /// Two lists of 1,000 numbers of 32 bits, and such a number.
-const VARIABLES: Image<'static> = Image {
+static VARIABLES: Image<'static> = Image {
     entries: &[
         (ARRAY, 0, 0),
         (SLONG, 0, 0),

@@ -25,7 +25,7 @@ enum Command {
     AssembleAndRun,
 }
 
-const EXAMPLES: [(&str, Command); 54] = [
+static EXAMPLES: [(&str, Command); 54] = [
     ("motor", Command::Run),
     ("rising", Command::Run),
     ("average", Command::Run),

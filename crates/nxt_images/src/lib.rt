@@ -1,12 +1,14 @@
 //! Programs told plainly, and the files that they are: what the tests build their files with.
 #![tactic(auto)]
 
-ghost use Rattle.std.specs.Prelude.{◌≡◌, ◌<◌, ◌^◌, ◌++◌, flat_map, length, IfOk, IsTrue, OnOk};
-ghost use Rattle.nxt_types.specs.Statements.{long_form_of};
+ghost use Rattle.std.specs.Prelude.{◌≡◌, ◌<◌, ◌^◌, length, IfOk, IsTrue};
 ghost use Rattle.nxt_rxe.specs.Files.{HasCounts, HasDynamic, IsFile, dependent_count};
 ghost use Rattle.nxt_rxe.specs.declared.parts.Parts.{Parts as FileParts};
 ghost use Rattle.nxt_layout.specs.Layouts.{IsLayout};
 
+mod names;
+
+pub use names::{cmp, op};
 use nxt_instr::encode;
 use nxt_layout::{Layout, check_layout};
 use nxt_rxe::{Header, Parts, read_rxe, write_rxe};
@@ -46,8 +48,8 @@ pub type Entry = (u8, u8, u16);
 /// A row of a table of rows: its place, its stride, and its count.
 pub type Row = (u16, u16, u16);
 
-/// A statement: its operation, its comparison, and its operands.
-pub type Statement<'a> = (Op, Cmp, &'a [u16]);
+/// A statement: the number of its operation, that of its comparison where it has one, and its operands.
+pub type Statement<'a> = &'a [u16];
 
 /// How a clump is set going, and what it sets going: its fire count, and its dependents.
 pub type Firing<'a> = (u8, &'a [u8]);
@@ -80,11 +82,42 @@ pub const EMPTY: Image<'static> = Image {
     code: &[],
 };
 
+/// A statement by its parts.
+#[derive(Clone, Copy)]
+pub struct Form<'a> {
+    pub op: Op,
+    pub cmp: Cmp,
+    pub operands: &'a [u16],
+}
+
+/// The parts of a statement.
+pub fn form_of<'a>(statement: Statement<'a>) -> Result<Form<'a>, Fail> {
+    let [code, rest @ ..] = statement else {
+        return Err("it has no operation".into());
+    };
+    let op = Op::from_code(u8::try_from(*code)?).ok_or("it is no operation")?;
+    if !op.has_comparison() {
+        return Ok(Form {
+            op,
+            cmp: Cmp::Lt,
+            operands: rest,
+        });
+    }
+    let [number, operands @ ..] = rest else {
+        return Err("it has no comparison".into());
+    };
+    let cmp = Cmp::from_number(u8::try_from(*number)?).ok_or("it is no comparison")?;
+    Ok(Form { op, cmp, operands })
+}
+
 /// Adds the words of a statement.
-pub fn append(words: &mut Words, statement: &Statement) -> Result<(), Fail>
-    ensures { OnOk result (words.new ≡ words.old ++ long_form_of statement.now.0 statement.now.1 statement.now.2.now) }
-{
-    let (op, cmp, operands) = *statement;
+pub fn append(words: &mut Words, statement: Statement) -> Result<(), Fail> {
+    append_form(words, form_of(statement)?)
+}
+
+/// The same of one that is told by its parts.
+pub fn append_form(words: &mut Words, statement: Form) -> Result<(), Fail> {
+    let Form { op, cmp, operands } = statement;
     if !op.has_comparison() && cmp != Cmp::Lt {
         return Err("it compares nothing".into());
     }
@@ -96,9 +129,7 @@ pub fn append(words: &mut Words, statement: &Statement) -> Result<(), Fail>
 }
 
 /// The words of statements, one behind another.
-pub fn words_of(alloc: Global, statements: &[Statement]) -> Result<Words, Fail>
-    ensures { IfOk result (λ words. words ≡ flat_map (λ s. long_form_of s.0 s.1 s.2.now) statements.now) }
-{
+pub fn words_of(alloc: Global, statements: &[Statement]) -> Result<Words, Fail> {
     let mut words = Words::new(alloc);
     for statement in statements {
         append(&mut words, statement)?;

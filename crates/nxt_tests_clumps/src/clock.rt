@@ -1,15 +1,13 @@
 // A clock that passes 32 bits.
 
 use crate::running::reports;
-use nxt_images::{EMPTY, Image, NO_DEFAULT, SBYTE, UBYTE, ULONG};
-use nxt_types::instr::Op;
-use nxt_types::kind::Cmp;
+use nxt_images::{EMPTY, Image, NO_DEFAULT, SBYTE, UBYTE, ULONG, op};
 use std::alloc::Global;
 use std::test::Fail;
 
 // Sleeps for 4,294,967,295 ms, as a wait of -1 does, and then shows the clock each millisecond. 0 is at 0, 1 at 1, -1 at 2
 // and the clock at 3.
-const LATE: Image<'static> = Image {
+static LATE: Image<'static> = Image {
     entries: &[
         (UBYTE, 0, 0),
         (UBYTE, 0, 1),
@@ -20,11 +18,11 @@ const LATE: Image<'static> = Image {
     defaults: &[0, 1, 255],
     clumps: &[0],
     code: &[
-        (Op::Wait, Cmp::Lt, &[2]),
-        (Op::Gettick, Cmp::Lt, &[3]),
-        (Op::Setout, Cmp::Lt, &[0, 5, 3, 0, 1]),
-        (Op::Wait, Cmp::Lt, &[1]),
-        (Op::Jmp, Cmp::Lt, &[0xFFF5]),
+        &[op::WAIT, 2],
+        &[op::GETTICK, 3],
+        &[op::SETOUT, 0, 5, 3, 0, 1],
+        &[op::WAIT, 1],
+        &[op::JMP, 0xFFF5],
     ],
     ..EMPTY
 };

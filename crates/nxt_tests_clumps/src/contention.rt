@@ -8,9 +8,7 @@ mod subroutines;
 mod turns;
 
 use crate::running::reports;
-use nxt_images::{EMPTY, Image, MUTEX, NO_DEFAULT, SBYTE, Statement, UBYTE, ULONG, UWORD};
-use nxt_types::instr::Op;
-use nxt_types::kind::Cmp;
+use nxt_images::{EMPTY, Image, MUTEX, NO_DEFAULT, SBYTE, Statement, UBYTE, ULONG, UWORD, op};
 use nxt_types::words::LEFT_OUT;
 use std::alloc::Global;
 use std::process::Abort;
@@ -86,44 +84,44 @@ const TABLE: Image<'static> = Image {
 // Statements. A setout has 7 words; add and brcmp have 4; finclump and subcall have 3; the others have 2.
 
 // A number is shown as the tacho limit of motor A, a word of 32 bits.
-const SHOW_0: Statement<'static> = (Op::Setout, Cmp::Lt, &[0, 5, 0, 0, 1]);
+const SHOW_0: Statement<'static> = &[op::SETOUT, 0, 5, 0, 0, 1];
 
-const SHOW_1: Statement<'static> = (Op::Setout, Cmp::Lt, &[0, 5, 1, 0, 1]);
+const SHOW_1: Statement<'static> = &[op::SETOUT, 0, 5, 1, 0, 1];
 
-const SHOW_2: Statement<'static> = (Op::Setout, Cmp::Lt, &[0, 5, 2, 0, 1]);
+const SHOW_2: Statement<'static> = &[op::SETOUT, 0, 5, 2, 0, 1];
 
-const SHOW_3: Statement<'static> = (Op::Setout, Cmp::Lt, &[0, 5, 3, 0, 1]);
+const SHOW_3: Statement<'static> = &[op::SETOUT, 0, 5, 3, 0, 1];
 
-const SHOW_4: Statement<'static> = (Op::Setout, Cmp::Lt, &[0, 5, 4, 0, 1]);
+const SHOW_4: Statement<'static> = &[op::SETOUT, 0, 5, 4, 0, 1];
 
-const SHOW_5: Statement<'static> = (Op::Setout, Cmp::Lt, &[0, 5, 5, 0, 1]);
+const SHOW_5: Statement<'static> = &[op::SETOUT, 0, 5, 5, 0, 1];
 
-const SHOW_A: Statement<'static> = (Op::Setout, Cmp::Lt, &[0, 5, A, 0, 1]);
+const SHOW_A: Statement<'static> = &[op::SETOUT, 0, 5, A, 0, 1];
 
-const COUNT_A: Statement<'static> = (Op::Add, Cmp::Lt, &[A, A, 1]);
+const COUNT_A: Statement<'static> = &[op::ADD, A, A, 1];
 
 // Ends a round of four counts and a show, and begins the next one.
-const AGAIN: Statement<'static> = (Op::Jmp, Cmp::Lt, &[0xFFE9]);
+const AGAIN: Statement<'static> = &[op::JMP, 0xFFE9];
 
-const ACQUIRE_M: Statement<'static> = (Op::Acquire, Cmp::Lt, &[M]);
+const ACQUIRE_M: Statement<'static> = &[op::ACQUIRE, M];
 
-const RELEASE_M: Statement<'static> = (Op::Release, Cmp::Lt, &[M]);
+const RELEASE_M: Statement<'static> = &[op::RELEASE, M];
 
-const ACQUIRE_N: Statement<'static> = (Op::Acquire, Cmp::Lt, &[N]);
+const ACQUIRE_N: Statement<'static> = &[op::ACQUIRE, N];
 
-const RELEASE_N: Statement<'static> = (Op::Release, Cmp::Lt, &[N]);
+const RELEASE_N: Statement<'static> = &[op::RELEASE, N];
 
 // Gives up the turn.
-const YIELD: Statement<'static> = (Op::Wait, Cmp::Lt, &[0]);
+const YIELD: Statement<'static> = &[op::WAIT, 0];
 
-const WAIT_1: Statement<'static> = (Op::Wait, Cmp::Lt, &[1]);
+const WAIT_1: Statement<'static> = &[op::WAIT, 1];
 
-const WAIT_5: Statement<'static> = (Op::Wait, Cmp::Lt, &[5]);
+const WAIT_5: Statement<'static> = &[op::WAIT, 5];
 
-const WAIT_9: Statement<'static> = (Op::Wait, Cmp::Lt, &[9]);
+const WAIT_9: Statement<'static> = &[op::WAIT, 9];
 
 // Ends the clump, and lowers no other one.
-const END: Statement<'static> = (Op::Finclump, Cmp::Lt, &[0, LEFT_OUT]);
+const END: Statement<'static> = &[op::FINCLUMP, 0, LEFT_OUT];
 
 /// A name, a program, its script, the numbers that are shown, and the lines behind them.
 type Case<'a> = (&'a str, &'a Image<'a>, &'a [u8], &'a [u32], &'a str);

@@ -1,37 +1,35 @@
 // Worked programs, with the table and the code that an assembler gives them.
 
 use crate::running::reports;
-use nxt_images::{EMPTY, Image, MUTEX, SLONG};
-use nxt_types::instr::Op;
-use nxt_types::kind::Cmp;
+use nxt_images::{EMPTY, Image, MUTEX, SLONG, op};
 use nxt_types::words::LEFT_OUT;
 use std::test::Fail;
 
 // One clump jumps to itself, the other one gives motor A the power 5.
-const JUMP_BESIDE_MOTOR: Image<'static> = Image {
+static JUMP_BESIDE_MOTOR: Image<'static> = Image {
     entries: &[(SLONG, 0, 0), (SLONG, 0, 4), (SLONG, 0, 8)],
     static_size: 12,
     defaults: &[0, 0, 0, 0, 5, 0, 0, 0, 2, 0, 0, 0],
     clumps: &[0, 5],
     code: &[
-        (Op::Jmp, Cmp::Lt, &[0]),
-        (Op::Finclump, Cmp::Lt, &[0, LEFT_OUT]),
-        (Op::Setout, Cmp::Lt, &[0, 2, 1, 0, 2]),
-        (Op::Finclump, Cmp::Lt, &[0, LEFT_OUT]),
+        &[op::JMP, 0],
+        &[op::FINCLUMP, 0, LEFT_OUT],
+        &[op::SETOUT, 0, 2, 1, 0, 2],
+        &[op::FINCLUMP, 0, LEFT_OUT],
     ],
     ..EMPTY
 };
 
 // Acquires one mutex twice.
-const ACQUIRE_TWICE: Image<'static> = Image {
+static ACQUIRE_TWICE: Image<'static> = Image {
     entries: &[(MUTEX, 0, 0)],
     static_size: 4,
     defaults: &[0, 0, 0, 0],
     clumps: &[0],
     code: &[
-        (Op::Acquire, Cmp::Lt, &[0]),
-        (Op::Acquire, Cmp::Lt, &[0]),
-        (Op::Finclump, Cmp::Lt, &[0, LEFT_OUT]),
+        &[op::ACQUIRE, 0],
+        &[op::ACQUIRE, 0],
+        &[op::FINCLUMP, 0, LEFT_OUT],
     ],
     ..EMPTY
 };

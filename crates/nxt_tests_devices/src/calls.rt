@@ -9,8 +9,7 @@ use crate::table::{
     RECT_Y, SCREEN, SCREEN_MODE, SOUND, SOUND_FLAGS, SOUND_STATE, SPLIT, TABLE, TONE,
     TONE_DURATION, TONE_FREQUENCY, TONE_LEVEL, TONE_LOOP,
 };
-use nxt_types::instr::Op;
-use nxt_types::kind::Cmp;
+use nxt_images::op;
 use std::test::Fail;
 
 // The numbers of the calls.
@@ -45,11 +44,11 @@ static SOUND_CALLS: [Case<'static>; 7] = [
     (
         "a tone",
         &[
-            (Op::Set, Cmp::Lt, &[TONE_FREQUENCY, 440]),
-            (Op::Set, Cmp::Lt, &[TONE_DURATION, 1000]),
-            (Op::Set, Cmp::Lt, &[TONE_LEVEL, 3]),
-            (Op::Syscall, Cmp::Lt, &[PLAY_TONE, TONE]),
-            (Op::Syscall, Cmp::Lt, &[GET_SOUND, HEARD]),
+            &[op::SET, TONE_FREQUENCY, 440],
+            &[op::SET, TONE_DURATION, 1000],
+            &[op::SET, TONE_LEVEL, 3],
+            &[op::SYSCALL, PLAY_TONE, TONE],
+            &[op::SYSCALL, GET_SOUND, HEARD],
             FINISH,
         ],
         &[],
@@ -61,11 +60,11 @@ static SOUND_CALLS: [Case<'static>; 7] = [
     (
         "its numbers are words",
         &[
-            (Op::Mov, Cmp::Lt, &[TONE_FREQUENCY, MINUS_ONE]),
-            (Op::Mov, Cmp::Lt, &[TONE_DURATION, MINUS_TWO]),
-            (Op::Set, Cmp::Lt, &[TONE_LOOP, 1]),
-            (Op::Mov, Cmp::Lt, &[TONE_LEVEL, MINUS_TWO]),
-            (Op::Syscall, Cmp::Lt, &[PLAY_TONE, TONE]),
+            &[op::MOV, TONE_FREQUENCY, MINUS_ONE],
+            &[op::MOV, TONE_DURATION, MINUS_TWO],
+            &[op::SET, TONE_LOOP, 1],
+            &[op::MOV, TONE_LEVEL, MINUS_TWO],
+            &[op::SYSCALL, PLAY_TONE, TONE],
             FINISH,
         ],
         &[],
@@ -76,7 +75,7 @@ static SOUND_CALLS: [Case<'static>; 7] = [
     ),
     (
         "no sound at the start",
-        &[(Op::Syscall, Cmp::Lt, &[GET_SOUND, HEARD]), FINISH],
+        &[&[op::SYSCALL, GET_SOUND, HEARD], FINISH],
         &[],
         Due {
             lines: "stop,finished\n",
@@ -86,10 +85,10 @@ static SOUND_CALLS: [Case<'static>; 7] = [
     (
         "a state and flags",
         &[
-            (Op::Set, Cmp::Lt, &[SOUND_STATE, 2]),
-            (Op::Set, Cmp::Lt, &[SOUND_FLAGS, 1]),
-            (Op::Syscall, Cmp::Lt, &[SET_SOUND, SOUND]),
-            (Op::Syscall, Cmp::Lt, &[GET_SOUND, HEARD]),
+            &[op::SET, SOUND_STATE, 2],
+            &[op::SET, SOUND_FLAGS, 1],
+            &[op::SYSCALL, SET_SOUND, SOUND],
+            &[op::SYSCALL, GET_SOUND, HEARD],
             FINISH,
         ],
         &[],
@@ -101,12 +100,12 @@ static SOUND_CALLS: [Case<'static>; 7] = [
     (
         "state 4 is silence",
         &[
-            (Op::Set, Cmp::Lt, &[TONE_FREQUENCY, 200]),
-            (Op::Syscall, Cmp::Lt, &[PLAY_TONE, TONE]),
-            (Op::Set, Cmp::Lt, &[SOUND_STATE, 4]),
-            (Op::Set, Cmp::Lt, &[SOUND_FLAGS, 1]),
-            (Op::Syscall, Cmp::Lt, &[SET_SOUND, SOUND]),
-            (Op::Syscall, Cmp::Lt, &[GET_SOUND, HEARD]),
+            &[op::SET, TONE_FREQUENCY, 200],
+            &[op::SYSCALL, PLAY_TONE, TONE],
+            &[op::SET, SOUND_STATE, 4],
+            &[op::SET, SOUND_FLAGS, 1],
+            &[op::SYSCALL, SET_SOUND, SOUND],
+            &[op::SYSCALL, GET_SOUND, HEARD],
             FINISH,
         ],
         &[],
@@ -118,8 +117,8 @@ static SOUND_CALLS: [Case<'static>; 7] = [
     (
         "260 is state 4",
         &[
-            (Op::Set, Cmp::Lt, &[SOUND_STATE, 260]),
-            (Op::Syscall, Cmp::Lt, &[SET_SOUND, SOUND]),
+            &[op::SET, SOUND_STATE, 260],
+            &[op::SYSCALL, SET_SOUND, SOUND],
             FINISH,
         ],
         &[],
@@ -131,10 +130,10 @@ static SOUND_CALLS: [Case<'static>; 7] = [
     (
         "259 is state 3, and -1 are the flags 255",
         &[
-            (Op::Set, Cmp::Lt, &[SOUND_STATE, 259]),
-            (Op::Mov, Cmp::Lt, &[SOUND_FLAGS, MINUS_ONE]),
-            (Op::Syscall, Cmp::Lt, &[SET_SOUND, SOUND]),
-            (Op::Syscall, Cmp::Lt, &[GET_SOUND, HEARD]),
+            &[op::SET, SOUND_STATE, 259],
+            &[op::MOV, SOUND_FLAGS, MINUS_ONE],
+            &[op::SYSCALL, SET_SOUND, SOUND],
+            &[op::SYSCALL, GET_SOUND, HEARD],
             FINISH,
         ],
         &[],
@@ -154,11 +153,11 @@ static DISPLAY_CALLS: [Case<'static>; 10] = [
     (
         "a text",
         &[
-            (Op::Set, Cmp::Lt, &[NOTE_X, 3]),
-            (Op::Set, Cmp::Lt, &[NOTE_Y, 56]),
-            (Op::Mov, Cmp::Lt, &[NOTE_TEXT, HI]),
-            (Op::Set, Cmp::Lt, &[NOTE_OPTIONS, 1]),
-            (Op::Syscall, Cmp::Lt, &[DRAW_TEXT, NOTE]),
+            &[op::SET, NOTE_X, 3],
+            &[op::SET, NOTE_Y, 56],
+            &[op::MOV, NOTE_TEXT, HI],
+            &[op::SET, NOTE_OPTIONS, 1],
+            &[op::SYSCALL, DRAW_TEXT, NOTE],
             FINISH,
         ],
         &[],
@@ -170,10 +169,10 @@ static DISPLAY_CALLS: [Case<'static>; 10] = [
     (
         "an empty text",
         &[
-            (Op::Mov, Cmp::Lt, &[NOTE_X, MINUS_ONE]),
-            (Op::Mov, Cmp::Lt, &[NOTE_Y, MINUS_TWO]),
-            (Op::Mov, Cmp::Lt, &[NOTE_OPTIONS, MINUS_ONE]),
-            (Op::Syscall, Cmp::Lt, &[DRAW_TEXT, NOTE]),
+            &[op::MOV, NOTE_X, MINUS_ONE],
+            &[op::MOV, NOTE_Y, MINUS_TWO],
+            &[op::MOV, NOTE_OPTIONS, MINUS_ONE],
+            &[op::SYSCALL, DRAW_TEXT, NOTE],
             FINISH,
         ],
         &[],
@@ -185,8 +184,8 @@ static DISPLAY_CALLS: [Case<'static>; 10] = [
     (
         "a text without a zero",
         &[
-            (Op::Mov, Cmp::Lt, &[NOTE_TEXT, ABC]),
-            (Op::Syscall, Cmp::Lt, &[DRAW_TEXT, NOTE]),
+            &[op::MOV, NOTE_TEXT, ABC],
+            &[op::SYSCALL, DRAW_TEXT, NOTE],
             FINISH,
         ],
         &[],
@@ -198,8 +197,8 @@ static DISPLAY_CALLS: [Case<'static>; 10] = [
     (
         "a text is shown up to its first zero",
         &[
-            (Op::Mov, Cmp::Lt, &[NOTE_TEXT, SPLIT]),
-            (Op::Syscall, Cmp::Lt, &[DRAW_TEXT, NOTE]),
+            &[op::MOV, NOTE_TEXT, SPLIT],
+            &[op::SYSCALL, DRAW_TEXT, NOTE],
             FINISH,
         ],
         &[],
@@ -211,8 +210,8 @@ static DISPLAY_CALLS: [Case<'static>; 10] = [
     (
         "64 letters of a text are shown",
         &[
-            (Op::Mov, Cmp::Lt, &[NOTE_TEXT, LONG]),
-            (Op::Syscall, Cmp::Lt, &[DRAW_TEXT, NOTE]),
+            &[op::MOV, NOTE_TEXT, LONG],
+            &[op::SYSCALL, DRAW_TEXT, NOTE],
             FINISH,
         ],
         &[],
@@ -224,10 +223,10 @@ static DISPLAY_CALLS: [Case<'static>; 10] = [
     (
         "a point",
         &[
-            (Op::Mov, Cmp::Lt, &[POINT_X, MINUS_TWO]),
-            (Op::Mov, Cmp::Lt, &[POINT_Y, HUGE]),
-            (Op::Set, Cmp::Lt, &[POINT_OPTIONS, 2]),
-            (Op::Syscall, Cmp::Lt, &[DRAW_POINT, POINT]),
+            &[op::MOV, POINT_X, MINUS_TWO],
+            &[op::MOV, POINT_Y, HUGE],
+            &[op::SET, POINT_OPTIONS, 2],
+            &[op::SYSCALL, DRAW_POINT, POINT],
             FINISH,
         ],
         &[],
@@ -239,12 +238,12 @@ static DISPLAY_CALLS: [Case<'static>; 10] = [
     (
         "a line",
         &[
-            (Op::Set, Cmp::Lt, &[LINE_X, 1]),
-            (Op::Set, Cmp::Lt, &[LINE_Y, 2]),
-            (Op::Set, Cmp::Lt, &[LINE_END_X, 3]),
-            (Op::Set, Cmp::Lt, &[LINE_END_Y, 4]),
-            (Op::Set, Cmp::Lt, &[LINE_OPTIONS, 5]),
-            (Op::Syscall, Cmp::Lt, &[DRAW_LINE, LINE]),
+            &[op::SET, LINE_X, 1],
+            &[op::SET, LINE_Y, 2],
+            &[op::SET, LINE_END_X, 3],
+            &[op::SET, LINE_END_Y, 4],
+            &[op::SET, LINE_OPTIONS, 5],
+            &[op::SYSCALL, DRAW_LINE, LINE],
             FINISH,
         ],
         &[],
@@ -256,11 +255,11 @@ static DISPLAY_CALLS: [Case<'static>; 10] = [
     (
         "a circle",
         &[
-            (Op::Set, Cmp::Lt, &[CIRCLE_X, 50]),
-            (Op::Set, Cmp::Lt, &[CIRCLE_Y, 32]),
-            (Op::Set, Cmp::Lt, &[CIRCLE_SIZE, 10]),
-            (Op::Set, Cmp::Lt, &[CIRCLE_OPTIONS, 1]),
-            (Op::Syscall, Cmp::Lt, &[DRAW_CIRCLE, CIRCLE]),
+            &[op::SET, CIRCLE_X, 50],
+            &[op::SET, CIRCLE_Y, 32],
+            &[op::SET, CIRCLE_SIZE, 10],
+            &[op::SET, CIRCLE_OPTIONS, 1],
+            &[op::SYSCALL, DRAW_CIRCLE, CIRCLE],
             FINISH,
         ],
         &[],
@@ -272,12 +271,12 @@ static DISPLAY_CALLS: [Case<'static>; 10] = [
     (
         "a rectangle",
         &[
-            (Op::Set, Cmp::Lt, &[RECT_X, 1]),
-            (Op::Set, Cmp::Lt, &[RECT_Y, 2]),
-            (Op::Set, Cmp::Lt, &[RECT_WIDTH, 30]),
-            (Op::Set, Cmp::Lt, &[RECT_HEIGHT, 20]),
-            (Op::Set, Cmp::Lt, &[RECT_OPTIONS, 3]),
-            (Op::Syscall, Cmp::Lt, &[DRAW_RECT, RECT]),
+            &[op::SET, RECT_X, 1],
+            &[op::SET, RECT_Y, 2],
+            &[op::SET, RECT_WIDTH, 30],
+            &[op::SET, RECT_HEIGHT, 20],
+            &[op::SET, RECT_OPTIONS, 3],
+            &[op::SYSCALL, DRAW_RECT, RECT],
             FINISH,
         ],
         &[],
@@ -289,8 +288,8 @@ static DISPLAY_CALLS: [Case<'static>; 10] = [
     (
         "the screen's mode",
         &[
-            (Op::Mov, Cmp::Lt, &[SCREEN_MODE, MINUS_TWO]),
-            (Op::Syscall, Cmp::Lt, &[SET_SCREEN, SCREEN]),
+            &[op::MOV, SCREEN_MODE, MINUS_TWO],
+            &[op::SYSCALL, SET_SCREEN, SCREEN],
             FINISH,
         ],
         &[],
@@ -310,9 +309,9 @@ static BUTTON_CALLS: [Case<'static>; 6] = [
     (
         "a button that is pressed",
         &[
-            (Op::Set, Cmp::Lt, &[BUTTON_INDEX, 1]),
-            (Op::Syscall, Cmp::Lt, &[READ_BUTTON, BUTTON]),
-            (Op::Syscall, Cmp::Lt, &[READ_BUTTON, BUTTON]),
+            &[op::SET, BUTTON_INDEX, 1],
+            &[op::SYSCALL, READ_BUTTON, BUTTON],
+            &[op::SYSCALL, READ_BUTTON, BUTTON],
             FINISH,
         ],
         &[Outside::Button(1, 1, 5)],
@@ -324,9 +323,9 @@ static BUTTON_CALLS: [Case<'static>; 6] = [
     (
         "its count, made 0 when it was read",
         &[
-            (Op::Set, Cmp::Lt, &[BUTTON_INDEX, 1]),
-            (Op::Set, Cmp::Lt, &[BUTTON_RESET, 1]),
-            (Op::Syscall, Cmp::Lt, &[READ_BUTTON, BUTTON]),
+            &[op::SET, BUTTON_INDEX, 1],
+            &[op::SET, BUTTON_RESET, 1],
+            &[op::SYSCALL, READ_BUTTON, BUTTON],
             FINISH,
         ],
         &[Outside::Button(1, 1, 5)],
@@ -338,10 +337,10 @@ static BUTTON_CALLS: [Case<'static>; 6] = [
     (
         "and read again",
         &[
-            (Op::Set, Cmp::Lt, &[BUTTON_INDEX, 1]),
-            (Op::Set, Cmp::Lt, &[BUTTON_RESET, 256]),
-            (Op::Syscall, Cmp::Lt, &[READ_BUTTON, BUTTON]),
-            (Op::Syscall, Cmp::Lt, &[READ_BUTTON, BUTTON]),
+            &[op::SET, BUTTON_INDEX, 1],
+            &[op::SET, BUTTON_RESET, 256],
+            &[op::SYSCALL, READ_BUTTON, BUTTON],
+            &[op::SYSCALL, READ_BUTTON, BUTTON],
             FINISH,
         ],
         &[Outside::Button(1, 1, 5)],
@@ -353,8 +352,8 @@ static BUTTON_CALLS: [Case<'static>; 6] = [
     (
         "another button",
         &[
-            (Op::Set, Cmp::Lt, &[BUTTON_INDEX, 3]),
-            (Op::Syscall, Cmp::Lt, &[READ_BUTTON, BUTTON]),
+            &[op::SET, BUTTON_INDEX, 3],
+            &[op::SYSCALL, READ_BUTTON, BUTTON],
             FINISH,
         ],
         &[Outside::Button(1, 1, 5), Outside::Button(4, 1, 6)],
@@ -366,9 +365,9 @@ static BUTTON_CALLS: [Case<'static>; 6] = [
     (
         "no such button",
         &[
-            (Op::Set, Cmp::Lt, &[BUTTON_INDEX, 4]),
-            (Op::Set, Cmp::Lt, &[BUTTON_RESET, 1]),
-            (Op::Syscall, Cmp::Lt, &[READ_BUTTON, BUTTON]),
+            &[op::SET, BUTTON_INDEX, 4],
+            &[op::SET, BUTTON_RESET, 1],
+            &[op::SYSCALL, READ_BUTTON, BUTTON],
             FINISH,
         ],
         &[Outside::Button(0, 1, 5)],
@@ -380,8 +379,8 @@ static BUTTON_CALLS: [Case<'static>; 6] = [
     (
         "an index is a word",
         &[
-            (Op::Mov, Cmp::Lt, &[BUTTON_INDEX, MINUS_ONE]),
-            (Op::Syscall, Cmp::Lt, &[READ_BUTTON, BUTTON]),
+            &[op::MOV, BUTTON_INDEX, MINUS_ONE],
+            &[op::SYSCALL, READ_BUTTON, BUTTON],
             FINISH,
         ],
         &[],
@@ -400,7 +399,7 @@ fn button_calls(rt: HostRuntime) -> Result<(), Fail> {
 static NUMBER_CALLS: [Case<'static>; 6] = [
     (
         "no random word",
-        &[(Op::Syscall, Cmp::Lt, &[RANDOM_NUMBER, LUCK]), FINISH],
+        &[&[op::SYSCALL, RANDOM_NUMBER, LUCK], FINISH],
         &[],
         Due {
             lines: "stop,finished\n",
@@ -410,8 +409,8 @@ static NUMBER_CALLS: [Case<'static>; 6] = [
     (
         "random words come in their order",
         &[
-            (Op::Syscall, Cmp::Lt, &[RANDOM_NUMBER, LUCK]),
-            (Op::Syscall, Cmp::Lt, &[RANDOM_NUMBER, MORE_LUCK]),
+            &[op::SYSCALL, RANDOM_NUMBER, LUCK],
+            &[op::SYSCALL, RANDOM_NUMBER, MORE_LUCK],
             FINISH,
         ],
         &[Outside::Random(5), Outside::Random(-3)],
@@ -423,8 +422,8 @@ static NUMBER_CALLS: [Case<'static>; 6] = [
     (
         "each once",
         &[
-            (Op::Syscall, Cmp::Lt, &[RANDOM_NUMBER, LUCK]),
-            (Op::Syscall, Cmp::Lt, &[RANDOM_NUMBER, LUCK]),
+            &[op::SYSCALL, RANDOM_NUMBER, LUCK],
+            &[op::SYSCALL, RANDOM_NUMBER, LUCK],
             FINISH,
         ],
         &[Outside::Random(5)],
@@ -435,7 +434,7 @@ static NUMBER_CALLS: [Case<'static>; 6] = [
     ),
     (
         "of 17 random words the oldest is lost",
-        &[(Op::Syscall, Cmp::Lt, &[RANDOM_NUMBER, LUCK]), FINISH],
+        &[&[op::SYSCALL, RANDOM_NUMBER, LUCK], FINISH],
         &[
             Outside::Random(1),
             Outside::Random(2),
@@ -462,7 +461,7 @@ static NUMBER_CALLS: [Case<'static>; 6] = [
     ),
     (
         "the start",
-        &[(Op::Syscall, Cmp::Lt, &[START_TICK, LUCK]), FINISH],
+        &[&[op::SYSCALL, START_TICK, LUCK], FINISH],
         &[],
         Due {
             lines: "stop,finished\n",
@@ -471,7 +470,7 @@ static NUMBER_CALLS: [Case<'static>; 6] = [
     ),
     (
         "ten minutes",
-        &[(Op::Syscall, Cmp::Lt, &[KEEP_ALIVE, LUCK]), FINISH],
+        &[&[op::SYSCALL, KEEP_ALIVE, LUCK], FINISH],
         &[],
         Due {
             lines: "stop,finished\n",

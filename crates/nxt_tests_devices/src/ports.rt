@@ -1,9 +1,7 @@
 // Statements on motors and sensors. What they store and tell is worked out from their meaning.
 
 use crate::running::{Case, Due, Outside, check_all};
-use nxt_images::{ARRAY, EMPTY, Image, NO_DEFAULT, SLONG, Statement, UBYTE, UWORD};
-use nxt_types::instr::Op;
-use nxt_types::kind::Cmp;
+use nxt_images::{ARRAY, EMPTY, Image, NO_DEFAULT, SLONG, Statement, UBYTE, UWORD, op};
 use nxt_types::words::LEFT_OUT;
 use std::test::Fail;
 
@@ -37,7 +35,7 @@ const PORTS: u16 = 12;
 const NOWHERE: u16 = 14;
 
 /// What every program here has.
-const TABLE: Image<'static> = Image {
+static TABLE: Image<'static> = Image {
     entries: &[
         (SLONG, 0, 0),
         (SLONG, 0, 4),
@@ -67,18 +65,18 @@ const TABLE: Image<'static> = Image {
     ..EMPTY
 };
 
-const FINISH: Statement<'static> = (Op::Finclump, Cmp::Lt, &[LEFT_OUT, LEFT_OUT]);
+const FINISH: Statement<'static> = &[op::FINCLUMP, LEFT_OUT, LEFT_OUT];
 
 static SENSORS: [Case<'static>; 7] = [
     (
         "type, mode, scaled value and invalid are stored, cut to their kinds",
         &[
-            (Op::Setin, Cmp::Lt, &[BIG, 2, 0]),
-            (Op::Setin, Cmp::Lt, &[MINUS_ONE, 2, 1]),
-            (Op::Setin, Cmp::Lt, &[HUGE, 2, 4]),
-            (Op::Getin, Cmp::Lt, &[A, 2, 0]),
-            (Op::Getin, Cmp::Lt, &[B, 2, 1]),
-            (Op::Getin, Cmp::Lt, &[C, 2, 4]),
+            &[op::SETIN, BIG, 2, 0],
+            &[op::SETIN, MINUS_ONE, 2, 1],
+            &[op::SETIN, HUGE, 2, 4],
+            &[op::GETIN, A, 2, 0],
+            &[op::GETIN, B, 2, 1],
+            &[op::GETIN, C, 2, 4],
             FINISH,
         ],
         &[],
@@ -90,12 +88,12 @@ static SENSORS: [Case<'static>; 7] = [
     (
         "raw and normalized value aren't",
         &[
-            (Op::Setin, Cmp::Lt, &[BIG, 2, 2]),
-            (Op::Setin, Cmp::Lt, &[BIG, 2, 3]),
-            (Op::Setin, Cmp::Lt, &[BIG, 2, 5]),
-            (Op::Getin, Cmp::Lt, &[A, 2, 2]),
-            (Op::Getin, Cmp::Lt, &[B, 2, 3]),
-            (Op::Getin, Cmp::Lt, &[C, 2, 5]),
+            &[op::SETIN, BIG, 2, 2],
+            &[op::SETIN, BIG, 2, 3],
+            &[op::SETIN, BIG, 2, 5],
+            &[op::GETIN, A, 2, 2],
+            &[op::GETIN, B, 2, 3],
+            &[op::GETIN, C, 2, 5],
             FINISH,
         ],
         &[],
@@ -107,9 +105,9 @@ static SENSORS: [Case<'static>; 7] = [
     (
         "a reading",
         &[
-            (Op::Getin, Cmp::Lt, &[A, 1, 2]),
-            (Op::Getin, Cmp::Lt, &[B, 1, 3]),
-            (Op::Getin, Cmp::Lt, &[C, 1, 4]),
+            &[op::GETIN, A, 1, 2],
+            &[op::GETIN, B, 1, 3],
+            &[op::GETIN, C, 1, 4],
             FINISH,
         ],
         &[Outside::Reading(1, 700, 65535, -40)],
@@ -121,9 +119,9 @@ static SENSORS: [Case<'static>; 7] = [
     (
         "sensors are apart",
         &[
-            (Op::Getin, Cmp::Lt, &[A, 0, 2]),
-            (Op::Getin, Cmp::Lt, &[B, 3, 2]),
-            (Op::Getin, Cmp::Lt, &[C, 2, 4]),
+            &[op::GETIN, A, 0, 2],
+            &[op::GETIN, B, 3, 2],
+            &[op::GETIN, C, 2, 4],
             FINISH,
         ],
         &[
@@ -138,9 +136,9 @@ static SENSORS: [Case<'static>; 7] = [
     (
         "there is no port 4",
         &[
-            (Op::Setin, Cmp::Lt, &[BIG, 4, 0]),
-            (Op::Getin, Cmp::Lt, &[A, 4, 0]),
-            (Op::Getin, Cmp::Lt, &[B, 0, 0]),
+            &[op::SETIN, BIG, 4, 0],
+            &[op::GETIN, A, 4, 0],
+            &[op::GETIN, B, 0, 0],
             FINISH,
         ],
         &[],
@@ -152,8 +150,8 @@ static SENSORS: [Case<'static>; 7] = [
     (
         "nor a port -1",
         &[
-            (Op::Setin, Cmp::Lt, &[BIG, MINUS_ONE, 0]),
-            (Op::Getin, Cmp::Lt, &[A, MINUS_ONE, 0]),
+            &[op::SETIN, BIG, MINUS_ONE, 0],
+            &[op::GETIN, A, MINUS_ONE, 0],
             FINISH,
         ],
         &[],
@@ -165,9 +163,9 @@ static SENSORS: [Case<'static>; 7] = [
     (
         "nor a port 300",
         &[
-            (Op::Setin, Cmp::Lt, &[BIG, BIG, 0]),
-            (Op::Getin, Cmp::Lt, &[A, BIG, 0]),
-            (Op::Getout, Cmp::Lt, &[B, BIG, 2]),
+            &[op::SETIN, BIG, BIG, 0],
+            &[op::GETIN, A, BIG, 0],
+            &[op::GETOUT, B, BIG, 2],
             FINISH,
         ],
         &[],
@@ -182,9 +180,9 @@ static MOTORS: [Case<'static>; 6] = [
     (
         "what the tacho told is read",
         &[
-            (Op::Getout, Cmp::Lt, &[A, 1, 3]),
-            (Op::Getout, Cmp::Lt, &[B, 1, 4]),
-            (Op::Getout, Cmp::Lt, &[C, 1, 14]),
+            &[op::GETOUT, A, 1, 3],
+            &[op::GETOUT, B, 1, 4],
+            &[op::GETOUT, C, 1, 14],
             FINISH,
         ],
         &[Outside::Tacho(1, -50, 1000, 20, -7)],
@@ -196,10 +194,10 @@ static MOTORS: [Case<'static>; 6] = [
     (
         "flags reset the counts, and become 0",
         &[
-            (Op::Setout, Cmp::Lt, &[1, 2, BIG, 0, RESET]),
-            (Op::Getout, Cmp::Lt, &[A, 1, 4]),
-            (Op::Getout, Cmp::Lt, &[B, 1, 13]),
-            (Op::Getout, Cmp::Lt, &[C, 1, 0]),
+            &[op::SETOUT, 1, 2, BIG, 0, RESET],
+            &[op::GETOUT, A, 1, 4],
+            &[op::GETOUT, B, 1, 13],
+            &[op::GETOUT, C, 1, 0],
             FINISH,
         ],
         &[Outside::Tacho(1, -50, 1000, 20, -7)],
@@ -211,10 +209,10 @@ static MOTORS: [Case<'static>; 6] = [
     (
         "without flags nothing is taken over",
         &[
-            (Op::Setout, Cmp::Lt, &[1, 5, MINUS_ONE]),
-            (Op::Getout, Cmp::Lt, &[A, 1, 4]),
-            (Op::Getout, Cmp::Lt, &[B, 1, 5]),
-            (Op::Getout, Cmp::Lt, &[C, 3, 5]),
+            &[op::SETOUT, 1, 5, MINUS_ONE],
+            &[op::GETOUT, A, 1, 4],
+            &[op::GETOUT, B, 1, 5],
+            &[op::GETOUT, C, 3, 5],
             FINISH,
         ],
         &[Outside::Tacho(1, -50, 1000, 20, -7)],
@@ -226,10 +224,10 @@ static MOTORS: [Case<'static>; 6] = [
     (
         "speed and overload aren't written",
         &[
-            (Op::Setout, Cmp::Lt, &[0, 3, BIG, 9, BIG, 8, BIG]),
-            (Op::Getout, Cmp::Lt, &[A, 0, 3]),
-            (Op::Getout, Cmp::Lt, &[B, 0, 9]),
-            (Op::Getout, Cmp::Lt, &[C, 0, 8]),
+            &[op::SETOUT, 0, 3, BIG, 9, BIG, 8, BIG],
+            &[op::GETOUT, A, 0, 3],
+            &[op::GETOUT, B, 0, 9],
+            &[op::GETOUT, C, 0, 8],
             FINISH,
         ],
         &[],
@@ -241,10 +239,10 @@ static MOTORS: [Case<'static>; 6] = [
     (
         "the ports of a list come in their order, each once",
         &[
-            (Op::Setout, Cmp::Lt, &[PORTS, 2, 4, 0, 2]),
-            (Op::Getout, Cmp::Lt, &[A, 0, 2]),
-            (Op::Getout, Cmp::Lt, &[B, 1, 2]),
-            (Op::Getout, Cmp::Lt, &[C, 2, 2]),
+            &[op::SETOUT, PORTS, 2, 4, 0, 2],
+            &[op::GETOUT, A, 0, 2],
+            &[op::GETOUT, B, 1, 2],
+            &[op::GETOUT, C, 2, 2],
             FINISH,
         ],
         &[],
@@ -256,10 +254,10 @@ static MOTORS: [Case<'static>; 6] = [
     (
         "no ports, and none that there is",
         &[
-            (Op::Setout, Cmp::Lt, &[NOWHERE, 2, 4, 0, 2]),
-            (Op::Setout, Cmp::Lt, &[3, 2, 4, 0, 2]),
-            (Op::Setout, Cmp::Lt, &[MINUS_ONE, 2, 4, 0, 2]),
-            (Op::Getout, Cmp::Lt, &[A, 0, 2]),
+            &[op::SETOUT, NOWHERE, 2, 4, 0, 2],
+            &[op::SETOUT, 3, 2, 4, 0, 2],
+            &[op::SETOUT, MINUS_ONE, 2, 4, 0, 2],
+            &[op::GETOUT, A, 0, 2],
             FINISH,
         ],
         &[],

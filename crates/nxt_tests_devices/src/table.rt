@@ -1,9 +1,7 @@
 // What every program here has: a cluster for each kind of call, numbers and texts. Each result is 9 at the start, and what a
 // button tells is 8.
 
-use nxt_images::{ARRAY, CLUSTER, EMPTY, Image, NO_DEFAULT, SLONG, Statement, UBYTE};
-use nxt_types::instr::Op;
-use nxt_types::kind::Cmp;
+use nxt_images::{ARRAY, CLUSTER, EMPTY, Image, NO_DEFAULT, SLONG, Statement, UBYTE, op};
 use nxt_types::words::LEFT_OUT;
 
 // The table's entries.
@@ -163,7 +161,7 @@ pub(crate) const MORE_MAIL_REMOVE: u16 = 97;
 pub(crate) const MORE_MAIL_MESSAGE: u16 = 98;
 
 /// The table and the data of every program here.
-pub(crate) const TABLE: Image<'static> = Image {
+pub(crate) static TABLE: Image<'static> = Image {
     entries: &[
         (SLONG, 0, 0),
         (SLONG, 0, 4),
@@ -288,4 +286,4 @@ pub(crate) const TABLE: Image<'static> = Image {
 };
 
 /// The end of a program.
-pub(crate) const FINISH: Statement<'static> = (Op::Finclump, Cmp::Lt, &[LEFT_OUT, LEFT_OUT]);
+pub(crate) const FINISH: Statement<'static> = &[op::FINCLUMP, LEFT_OUT, LEFT_OUT];

@@ -4,8 +4,8 @@ ghost use Rattle.std.specs.Prelude.{◌≡◌, ◌≤◌, [], ◌∷◌, IfOk};
 
 use nxt_code::{Code, CodeFault, check_code};
 use nxt_images::{
-    ARRAY, CLUSTER, EMPTY, Image, MUTEX, NO_DEFAULT, SBYTE, SLONG, SWORD, Statement, UBYTE, ULONG,
-    VOID, append, layout_of, words_of,
+    ARRAY, CLUSTER, EMPTY, Form, Image, MUTEX, NO_DEFAULT, SBYTE, SLONG, SWORD, Statement, UBYTE,
+    ULONG, VOID, append, append_form, layout_of, op, words_of,
 };
 use nxt_layout::Layout;
 use nxt_types::NoMemory;
@@ -22,7 +22,7 @@ use std::test::Fail;
 /// The variables that the tests name: two numbers at 0 and 1, lists of ubyte at 2 and of slong at 4, a mutex at 6, a cluster
 /// at 7 with a place at 9 and a text at 12, and a void at 15. At 3, 5 and 13 stand elements. The cluster draws a text: it
 /// has a result, a place, a text and options.
-const VARIABLES: Image<'static> = Image {
+static VARIABLES: Image<'static> = Image {
     entries: &[
         (UBYTE, NO_DEFAULT, 0),
         (SLONG, NO_DEFAULT, 1),
@@ -105,52 +105,27 @@ type Case<'a> = (&'a [Statement<'a>], &'a [u16], u16, Option<CodeFault>);
 
 // A setout of two pairs, in seven words, and a finclump.
 const SETOUT: [Statement<'static>; 2] = [
-    (Op::Setout, Cmp::Lt, &[0, 2, 1, 0, 0]),
-    (Op::Finclump, Cmp::Lt, &[0, LEFT_OUT]),
+    &[op::SETOUT, 0, 2, 1, 0, 0],
+    &[op::FINCLUMP, 0, LEFT_OUT],
 ];
 
 static CASES: [Case<'static>; 12] = [
     // A jump leads to a statement.
-    (&[(Op::Jmp, Cmp::Lt, &[0])], &[], 0, None),
-    (
-        &[(Op::Jmp, Cmp::Lt, &[1])],
-        &[],
-        0,
-        Some(CodeFault::Jump(0)),
-    ),
-    (
-        &[(Op::Jmp, Cmp::Lt, &[0xFFFF])],
-        &[],
-        0,
-        Some(CodeFault::Jump(0)),
-    ),
+    (&[&[op::JMP, 0]], &[], 0, None),
+    (&[&[op::JMP, 1]], &[], 0, Some(CodeFault::Jump(0))),
+    (&[&[op::JMP, 0xFFFF]], &[], 0, Some(CodeFault::Jump(0))),
     // Words that spell nothing.
     (&[], &[0x400F, 0x0000], 0, Some(CodeFault::Instr(0))),
-    (
-        &[(Op::Jmp, Cmp::Lt, &[0])],
-        &[0x4025],
-        0,
-        Some(CodeFault::Instr(2)),
-    ),
+    (&[&[op::JMP, 0]], &[0x4025], 0, Some(CodeFault::Instr(2))),
     // A clump starts at a statement.
     (&SETOUT, &[], 0, None),
     (&SETOUT, &[], 7, None),
     (&SETOUT, &[], 1, Some(CodeFault::ClumpStart(0))),
     (&SETOUT, &[], 10, Some(CodeFault::ClumpStart(0))),
     // The last statement ends the clump.
-    (&[(Op::Stop, Cmp::Lt, &[LEFT_OUT])], &[], 0, None),
-    (
-        &[(Op::Stop, Cmp::Lt, &[0])],
-        &[],
-        0,
-        Some(CodeFault::FallsOut(0)),
-    ),
-    (
-        &[(Op::Mov, Cmp::Lt, &[0, 1])],
-        &[],
-        0,
-        Some(CodeFault::FallsOut(0)),
-    ),
+    (&[&[op::STOP, LEFT_OUT]], &[], 0, None),
+    (&[&[op::STOP, 0]], &[], 0, Some(CodeFault::FallsOut(0))),
+    (&[&[op::MOV, 0, 1]], &[], 0, Some(CodeFault::FallsOut(0))),
 ];
 
 fn expect_fault(rt: &impl Abort, alloc: Global, toc: &Toc, case: &Case) -> Result<(), Fail> {
@@ -192,7 +167,7 @@ fn no_clump_is_refused(rt: HostRuntime) -> Result<(), Fail> {
 }
 
 // A jump to itself, of a clump that is its own dependent.
-const OWN_JUMP: &[u16] = &[0x4025, 0x0000];
+static OWN_JUMP: &[u16] = &[0x4025, 0x0000];
 
 fn own_dependent(alloc: Global, toc: &Toc) -> Result<Code, Fail> {
     let mut words = Words::new(alloc);
@@ -226,7 +201,7 @@ fn accepted_code_is_kept(rt: HostRuntime) -> Result<(), Fail> {
 
 // Why a jump to itself is refused, whose clump has these dependents.
 fn fault_of_dependents(alloc: Global, toc: &Toc, listed: &[u8]) -> Result<Option<CodeFault>, Fail> {
-    let words = words_of(alloc, &[(Op::Jmp, Cmp::Lt, &[0])])?;
+    let words = words_of(alloc, &[&[op::JMP, 0]])?;
     fault(alloc, toc, 0, listed, words)
 }
 
@@ -305,8 +280,14 @@ fn count(op: Op) -> usize
 
 // Why a statement and a stop behind it are refused.
 fn fault_of(alloc: Global, toc: &Toc, op: Op, operands: &[u16]) -> Result<Option<CodeFault>, Fail> {
-    let stop = (Op::Stop, Cmp::Lt, [LEFT_OUT].as_slice());
-    let words = words_of(alloc, &[(op, Cmp::Lt, operands), stop])?;
+    let mut words = Words::new(alloc);
+    let statement = Form {
+        op,
+        cmp: Cmp::Lt,
+        operands,
+    };
+    append_form(&mut words, statement)?;
+    append(&mut words, &[op::STOP, LEFT_OUT])?;
     fault(alloc, toc, 0, &[], words)
 }
 

@@ -1,30 +1,25 @@
 // Files and their parts.
 
-use nxt_images::{EMPTY, Image, SBYTE, UBYTE, file_of};
+use nxt_images::{EMPTY, Image, SBYTE, UBYTE, file_of, op};
 use nxt_rxe::{Parts, RxeFault, read_rxe, write_rxe};
-use nxt_types::instr::Op;
-use nxt_types::kind::Cmp;
 use nxt_types::lists::Bytes;
 use std::alloc::Global;
 use std::process::Abort;
 use std::test::Fail;
 
 /// The file of a program that sets the power of the motor at output A to 75, commits it and ends.
-const MOTOR: [u8; 78] = [
+static MOTOR: [u8; 78] = [
     77, 105, 110, 100, 115, 116, 111, 114, 109, 115, 78, 88, 84, 0, 0, 5, 3, 0, 3, 0, 3, 0, 3, 0,
     0, 0, 0, 0, 0, 0, 0, 0, 0, 0, 1, 0, 10, 0, 1, 0, 0, 0, 2, 0, 1, 0, 1, 0, 2, 0, 0, 75, 2, 0, 0,
     0, 0, 0, 49, 224, 14, 0, 0, 0, 2, 0, 1, 0, 0, 0, 2, 0, 42, 96, 0, 0, 255, 255,
 ];
 
-const PROGRAM: Image<'static> = Image {
+static PROGRAM: Image<'static> = Image {
     entries: &[(UBYTE, 0, 0), (SBYTE, 0, 1), (UBYTE, 0, 2)],
     static_size: 3,
     defaults: &[0, 75, 2],
     clumps: &[0],
-    code: &[
-        (Op::Setout, Cmp::Lt, &[0, 2, 1, 0, 2]),
-        (Op::Finclump, Cmp::Lt, &[0, 0xFFFF]),
-    ],
+    code: &[&[op::SETOUT, 0, 2, 1, 0, 2], &[op::FINCLUMP, 0, 0xFFFF]],
     ..EMPTY
 };
 

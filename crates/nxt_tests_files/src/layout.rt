@@ -163,7 +163,7 @@ fn leaves_at_their_edges(rt: HostRuntime) -> Result<(), Fail> {
     Ok(())
 }
 
-const MUTEX_AND_BYTE: Image<'static> = Image {
+static MUTEX_AND_BYTE: Image<'static> = Image {
     entries: &[(MUTEX, 0, 0), (UBYTE, 0, 4)],
     static_size: 5,
     defaults: &[1, 2, 3, 4, 5],

@@ -7,16 +7,16 @@ use std::process::Abort;
 use std::test::Fail;
 
 /// A list of bytes.
-const LIST: &[Entry] = &[(ARRAY, 0, 0), (UBYTE, 0, 0)];
+static LIST: &[Entry] = &[(ARRAY, 0, 0), (UBYTE, 0, 0)];
 
 /// Two lists of bytes.
-const TWO: &[Entry] = &[(ARRAY, 0, 0), (UBYTE, 0, 0), (ARRAY, 0, 2), (UBYTE, 0, 0)];
+static TWO: &[Entry] = &[(ARRAY, 0, 0), (UBYTE, 0, 0), (ARRAY, 0, 2), (UBYTE, 0, 0)];
 
 /// A list of lists of bytes.
-const NESTED: &[Entry] = &[(ARRAY, 0, 0), (ARRAY, 0, 0), (UBYTE, 0, 0)];
+static NESTED: &[Entry] = &[(ARRAY, 0, 0), (ARRAY, 0, 0), (UBYTE, 0, 0)];
 
 /// A list of clusters of a byte and a list of words.
-const RECORDS: &[Entry] = &[
+static RECORDS: &[Entry] = &[
     (ARRAY, 0, 0),
     (CLUSTER, 0, 2),
     (UBYTE, 0, 0),
@@ -303,9 +303,9 @@ fn lists_in_clusters(rt: HostRuntime) -> Result<(), Fail> {
     check_all(&rt, rt.alloc(), RECORDS, &LISTS_IN_CLUSTERS)
 }
 
-const FULL: Case<'static> = (&[1, 0], &[(2, 10, 2), (22, 1, 32744)], &[], Ok(32768));
+static FULL: Case<'static> = (&[1, 0], &[(2, 10, 2), (22, 1, 32744)], &[], Ok(32768));
 
-const TOO_FULL: Case<'static> = (
+static TOO_FULL: Case<'static> = (
     &[1, 0],
     &[(2, 10, 2), (22, 1, 32745)],
     &[],

@@ -8,16 +8,14 @@ mod programs;
 mod worked;
 
 use nxt_edge::{MemSink, MemSource};
-use nxt_images::{EMPTY, Image, SBYTE, Statement, UBYTE};
+use nxt_images::{EMPTY, Image, SBYTE, Statement, UBYTE, op};
 use nxt_tool::{Status, nxt};
-use nxt_types::instr::Op;
-use nxt_types::kind::Cmp;
 use nxt_types::words::LEFT_OUT;
 use std::alloc::Global;
 use std::test::Fail;
 
 /// The end of a program.
-const FINISH: Statement<'static> = (Op::Finclump, Cmp::Lt, &[0, LEFT_OUT]);
+const FINISH: Statement<'static> = &[op::FINCLUMP, 0, LEFT_OUT];
 
 /// Sets the power of the motor at output A to 75, commits it and ends.
 const MOTOR: Image<'static> = Image {
@@ -25,7 +23,7 @@ const MOTOR: Image<'static> = Image {
     static_size: 3,
     defaults: &[0, 75, 2],
     clumps: &[0],
-    code: &[(Op::Setout, Cmp::Lt, &[0, 2, 1, 0, 2]), FINISH],
+    code: &[&[op::SETOUT, 0, 2, 1, 0, 2], FINISH],
     ..EMPTY
 };
 
@@ -37,7 +35,7 @@ const MOTOR_LISTING: &[u8] =
 /// Jumps to itself.
 const ENDLESS_JUMP: Image<'static> = Image {
     clumps: &[0],
-    code: &[(Op::Jmp, Cmp::Lt, &[0])],
+    code: &[&[op::JMP, 0]],
     ..EMPTY
 };
 

@@ -208,7 +208,7 @@ fn check(
     take_all(rt, alloc, toc, &mut program.space, start, steps)
 }
 
-const KINDS: Image<'static> = Image {
+static KINDS: Image<'static> = Image {
     entries: &[
         (UBYTE, NO_DEFAULT, 0),
         (SBYTE, NO_DEFAULT, 1),

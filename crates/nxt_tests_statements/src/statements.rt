@@ -16,13 +16,12 @@ mod texts;
 
 use nxt_arrays::run_array;
 use nxt_code::{Code, check_code};
-use nxt_images::{Image, Statement, append, layout_of};
+use nxt_images::{Form, Image, Statement, append, form_of, layout_of, op};
 use nxt_instr::decode;
 use nxt_layout::Layout;
 use nxt_ops::{Next, run_op};
 use nxt_space::{Flat, OpFault, Path, Space};
 use nxt_types::instr::{Instr, Op};
-use nxt_types::kind::Cmp;
 use nxt_types::lists::{Bytes, ClumpRec, ClumpRecs, Words};
 use nxt_types::shape::Shape;
 use nxt_types::toc::Toc;
@@ -57,16 +56,16 @@ pub struct Story<'a> {
 }
 
 // How many words a statement jumps back, and ahead.
-fn reach(statement: &Statement) -> (usize, usize) {
-    let (op, _, operands) = *statement;
+fn reach(statement: Statement) -> Result<(usize, usize), Fail> {
+    let Form { op, operands, .. } = form_of(statement)?;
     if !matches!(op, Op::Jmp | Op::Brcmp | Op::Brtst) {
-        return (0, 0);
+        return Ok((0, 0));
     }
-    match operands.first() {
+    Ok(match operands.first() {
         Some(offset) if *offset >= 0x8000 => (65536 - usize::from(*offset), 0),
         Some(offset) => (0, usize::from(*offset)),
         None => (0, 0),
-    }
+    })
 }
 
 // Adds statements of one word each: `acquire`, in its short form, of the mutex at entry 14.
@@ -78,18 +77,18 @@ fn fill(words: &mut Words, count: usize) -> Result<(), Fail> {
 }
 
 // Adds a program in which the statement lands on a statement where it jumps, and gives the word at which it begins.
-fn push_program(words: &mut Words, statement: &Statement) -> Result<u16, Fail> {
-    let (back, ahead) = reach(statement);
+fn push_program(words: &mut Words, statement: Statement) -> Result<u16, Fail> {
+    let (back, ahead) = reach(statement)?;
     fill(words, back)?;
     let at = u16::try_from(words.len())?;
     append(words, statement)?;
     let length = words.len().saturating_sub(back);
     fill(words, ahead.saturating_sub(length))?;
-    append(words, &(Op::Finclump, Cmp::Lt, &[LEFT_OUT, LEFT_OUT]))?;
+    append(words, &[op::FINCLUMP, LEFT_OUT, LEFT_OUT])?;
     Ok(at)
 }
 
-fn program_of(alloc: Global, statement: &Statement) -> Result<(Words, u16), Fail> {
+fn program_of(alloc: Global, statement: Statement) -> Result<(Words, u16), Fail> {
     let mut words = Words::new(alloc);
     let at = push_program(&mut words, statement)?;
     Ok((words, at))
@@ -126,7 +125,7 @@ fn fit_statement(
 fn fit_program(
     alloc: Global,
     toc: &Toc,
-    statement: &Statement,
+    statement: Statement,
 ) -> Result<Option<(Instr, Code)>, Fail>
     ensures whole { IfOk result (λ found. IfSome found (λ f. IsWhole f.1.words f.0)) }
     ensures fit { IfOk result (λ found. IfSome found (λ f. AreFit toc.now.shapes (statement_of f.0 f.1.words))) }
@@ -271,7 +270,7 @@ fn take(
     ensures entries { space.new.vars.entries ≡ space.old.vars.entries }
     ensures shapes { space.new.vars.shapes ≡ space.old.vars.shapes }
 {
-    let found = fit_program(alloc, toc, &step.0)?;
+    let found = fit_program(alloc, toc, step.0)?;
     assert!(rt; found.is_some(), "{:?}", step.0);
     if let Some((i, code)) = found {
         run_fit(rt, alloc, &i, &code, toc, space, step);

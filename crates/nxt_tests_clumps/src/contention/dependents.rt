@@ -4,12 +4,10 @@ use super::{
     A, COUNT_A, Case, END, SHOW_0, SHOW_1, SHOW_2, SHOW_3, SHOW_4, SHOW_5, TABLE, WAIT_1, WAIT_5,
     WAIT_9, YIELD,
 };
-use nxt_images::{Image, Statement};
-use nxt_types::instr::Op;
-use nxt_types::kind::Cmp;
+use nxt_images::{Image, Statement, cmp, op};
 
 // Ends the clump, and lowers its first dependent.
-const END_AND_LOWER: Statement<'static> = (Op::Finclump, Cmp::Lt, &[0, 0]);
+const END_AND_LOWER: Statement<'static> = &[op::FINCLUMP, 0, 0];
 
 // Two clumps lower the third, which lowers them again until it has run three times.
 const ROUNDS: Image<'static> = Image {
@@ -22,9 +20,9 @@ const ROUNDS: Image<'static> = Image {
         END_AND_LOWER,
         SHOW_3,
         COUNT_A,
-        (Op::Brcmp, Cmp::Lt, &[7, A, 3]),
+        &[op::BRCMP, cmp::LT, 7, A, 3],
         END,
-        (Op::Finclump, Cmp::Lt, &[0, 1]),
+        &[op::FINCLUMP, 0, 1],
     ],
     ..TABLE
 };
@@ -81,31 +79,31 @@ const RANGES: Image<'static> = Image {
         END,
         YIELD,
         SHOW_0,
-        (Op::Finclump, Cmp::Lt, &[1, 3]),
+        &[op::FINCLUMP, 1, 3],
         // From -1 on.
         WAIT_1,
         SHOW_0,
-        (Op::Finclump, Cmp::Lt, &[0xFFFF, 1]),
-        (Op::Wait, Cmp::Lt, &[2]),
+        &[op::FINCLUMP, 0xFFFF, 1],
+        &[op::WAIT, 2],
         SHOW_0,
-        (Op::Finclump, Cmp::Lt, &[3, 100]),
+        &[op::FINCLUMP, 3, 100],
         // From -32768 to 32767.
-        (Op::Wait, Cmp::Lt, &[3]),
+        &[op::WAIT, 3],
         SHOW_0,
-        (Op::Finclump, Cmp::Lt, &[0x8000, 0x7FFF]),
-        (Op::Wait, Cmp::Lt, &[4]),
+        &[op::FINCLUMP, 0x8000, 0x7FFF],
+        &[op::WAIT, 4],
         SHOW_0,
-        (Op::Finclump, Cmp::Lt, &[2, 1]),
+        &[op::FINCLUMP, 2, 1],
         // To -2.
         WAIT_5,
         SHOW_0,
-        (Op::Finclump, Cmp::Lt, &[0, 0xFFFE]),
-        (Op::Wait, Cmp::Lt, &[6]),
+        &[op::FINCLUMP, 0, 0xFFFE],
+        &[op::WAIT, 6],
         SHOW_0,
-        (Op::Finclump, Cmp::Lt, &[5, 9]),
-        (Op::Wait, Cmp::Lt, &[7]),
+        &[op::FINCLUMP, 5, 9],
+        &[op::WAIT, 7],
         SHOW_0,
-        (Op::Finclump, Cmp::Lt, &[4, 5]),
+        &[op::FINCLUMP, 4, 5],
     ],
     ..TABLE
 };
@@ -114,7 +112,7 @@ const RANGES: Image<'static> = Image {
 const NAMED_TWICE: Image<'static> = Image {
     clumps: &[0, 3],
     firing: &[(0, &[1, 1]), (2, &[])],
-    code: &[(Op::Finclump, Cmp::Lt, &[0, 1]), SHOW_1, END],
+    code: &[&[op::FINCLUMP, 0, 1], SHOW_1, END],
     ..TABLE
 };
 
@@ -122,12 +120,7 @@ const NAMED_TWICE: Image<'static> = Image {
 const THEMSELVES: Image<'static> = Image {
     clumps: &[0, 10],
     firing: &[(0, &[0])],
-    code: &[
-        SHOW_1,
-        END_AND_LOWER,
-        SHOW_2,
-        (Op::Finclumpimmed, Cmp::Lt, &[1]),
-    ],
+    code: &[SHOW_1, END_AND_LOWER, SHOW_2, &[op::FINCLUMPIMMED, 1]],
     ..TABLE
 };
 
@@ -137,11 +130,11 @@ const ONE_AT_ONCE: Image<'static> = Image {
     firing: &[(0, &[3]), (2, &[]), (0, &[3])],
     code: &[
         SHOW_1,
-        (Op::Finclumpimmed, Cmp::Lt, &[1]),
+        &[op::FINCLUMPIMMED, 1],
         SHOW_3,
-        (Op::Finclumpimmed, Cmp::Lt, &[3]),
+        &[op::FINCLUMPIMMED, 3],
         SHOW_2,
-        (Op::Finclumpimmed, Cmp::Lt, &[1]),
+        &[op::FINCLUMPIMMED, 1],
         WAIT_5,
         END,
     ],
@@ -151,7 +144,7 @@ const ONE_AT_ONCE: Image<'static> = Image {
 const LOWERED_TOO_SELDOM: Image<'static> = Image {
     clumps: &[0, 9],
     firing: &[(0, &[]), (2, &[])],
-    code: &[SHOW_1, (Op::Finclumpimmed, Cmp::Lt, &[1]), SHOW_2, END],
+    code: &[SHOW_1, &[op::FINCLUMPIMMED, 1], SHOW_2, END],
     ..TABLE
 };
 
@@ -159,14 +152,7 @@ const LOWERED_TOO_SELDOM: Image<'static> = Image {
 const QUEUED_DEPENDENT: Image<'static> = Image {
     clumps: &[0, 10, 20, 10],
     firing: &[(0, &[1, 2, 3]), (1, &[]), (0, &[]), (1, &[])],
-    code: &[
-        SHOW_1,
-        (Op::Finclump, Cmp::Lt, &[0, 2]),
-        SHOW_2,
-        END,
-        SHOW_3,
-        END,
-    ],
+    code: &[SHOW_1, &[op::FINCLUMP, 0, 2], SHOW_2, END, SHOW_3, END],
     ..TABLE
 };
 

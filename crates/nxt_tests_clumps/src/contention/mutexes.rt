@@ -4,9 +4,7 @@ use super::{
     A, ACQUIRE_M, ACQUIRE_N, AGAIN, COUNT_A, Case, END, RELEASE_M, RELEASE_N, SHOW_1, SHOW_2,
     SHOW_3, SHOW_4, SHOW_5, SHOW_A, TABLE, WAIT_1, WAIT_5, WAIT_9, YIELD,
 };
-use nxt_images::Image;
-use nxt_types::instr::Op;
-use nxt_types::kind::Cmp;
+use nxt_images::{Image, cmp, op};
 
 // Clump 0 owns the mutex until 9. Clump 3 wants it at 1, clump 1 at 2 and clump 2 at 3.
 const WANTED_BY_THREE: Image<'static> = Image {
@@ -18,12 +16,12 @@ const WANTED_BY_THREE: Image<'static> = Image {
         RELEASE_M,
         SHOW_5,
         END,
-        (Op::Wait, Cmp::Lt, &[2]),
+        &[op::WAIT, 2],
         ACQUIRE_M,
         SHOW_2,
         RELEASE_M,
         END,
-        (Op::Wait, Cmp::Lt, &[3]),
+        &[op::WAIT, 3],
         ACQUIRE_M,
         SHOW_3,
         RELEASE_M,
@@ -97,7 +95,7 @@ const RELEASED_LAST: Image<'static> = Image {
         ACQUIRE_M,
         YIELD,
         COUNT_A,
-        (Op::Brcmp, Cmp::Lt, &[0xFFFC, A, 9]),
+        &[op::BRCMP, cmp::LT, 0xFFFC, A, 9],
         SHOW_A,
         RELEASE_M,
         SHOW_1,

@@ -4,11 +4,9 @@ use super::{
     A, ACQUIRE_M, AGAIN, CALLER, COUNT_A, Case, END, FULL_BYTE, MINUS_ONE, RELEASE_M, SHOW_1,
     SHOW_2, SHOW_3, SHOW_4, SHOW_A, TABLE, TIME, WAIT_1, WAIT_5, WAIT_9, YIELD,
 };
-use nxt_images::{Image, Statement};
-use nxt_types::instr::Op;
-use nxt_types::kind::Cmp;
+use nxt_images::{Image, Statement, cmp, op};
 
-const WAIT_3: Statement<'static> = (Op::Wait, Cmp::Lt, &[3]);
+const WAIT_3: Statement<'static> = &[op::WAIT, 3];
 
 // Clumps 0 and 2 sleep until 5, clump 1 until 3, and clump 3 until 1 and then for 3 ms. Clump 0 is the last to fall asleep.
 const FOUR_SLEEP: Image<'static> = Image {
@@ -33,19 +31,19 @@ const COUNTS_AFTER_SLEEP: Image<'static> = Image {
 const SHOWS_CLOCK: Image<'static> = Image {
     clumps: &[0],
     code: &[
-        (Op::Gettick, Cmp::Lt, &[TIME]),
-        (Op::Setout, Cmp::Lt, &[0, 5, TIME, 0, 1]),
-        (Op::Gettick, Cmp::Lt, &[CALLER]),
-        (Op::Setout, Cmp::Lt, &[0, 5, CALLER, 0, 1]),
+        &[op::GETTICK, TIME],
+        &[op::SETOUT, 0, 5, TIME, 0, 1],
+        &[op::GETTICK, CALLER],
+        &[op::SETOUT, 0, 5, CALLER, 0, 1],
         WAIT_9,
-        (Op::Jmp, Cmp::Lt, &[0xFFEC]),
+        &[op::JMP, 0xFFEC],
     ],
     ..TABLE
 };
 
 const SLEEPS_LONG: Image<'static> = Image {
     clumps: &[0],
-    code: &[(Op::Wait, Cmp::Lt, &[MINUS_ONE]), SHOW_1, END],
+    code: &[&[op::WAIT, MINUS_ONE], SHOW_1, END],
     ..TABLE
 };
 
@@ -57,7 +55,7 @@ const MANY_SLEEP: Image<'static> = Image {
         ACQUIRE_M,
         YIELD,
         COUNT_A,
-        (Op::Brcmp, Cmp::Lt, &[11, A, FULL_BYTE]),
+        &[op::BRCMP, cmp::LT, 11, A, FULL_BYTE],
         SHOW_A,
         RELEASE_M,
         END,

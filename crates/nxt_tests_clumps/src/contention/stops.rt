@@ -1,9 +1,7 @@
 // Programs that a statement of one clump stops for all.
 
 use super::{ACQUIRE_M, Case, END, SHOW_1, SHOW_2, SHOW_3, SHOW_4, TABLE, WAIT_5, YIELD};
-use nxt_images::{ARRAY, EMPTY, Image, NO_DEFAULT, SLONG, UBYTE};
-use nxt_types::instr::Op;
-use nxt_types::kind::Cmp;
+use nxt_images::{ARRAY, EMPTY, Image, NO_DEFAULT, SLONG, UBYTE, op};
 use nxt_types::words::LEFT_OUT;
 
 // Clump 0 owns a mutex and sleeps, clump 1 waits for it, and clump 2 stops where its number isn't 0.
@@ -17,11 +15,11 @@ const STOPPED_BY_ONE: Image<'static> = Image {
         ACQUIRE_M,
         END,
         SHOW_2,
-        (Op::Stop, Cmp::Lt, &[0]),
+        &[op::STOP, 0],
         SHOW_3,
-        (Op::Stop, Cmp::Lt, &[1]),
+        &[op::STOP, 1],
         SHOW_4,
-        (Op::Stop, Cmp::Lt, &[LEFT_OUT]),
+        &[op::STOP, LEFT_OUT],
     ],
     ..TABLE
 };
@@ -46,7 +44,7 @@ const PAST_THE_POOL: Image<'static> = Image {
         SHOW_1,
         END,
         SHOW_2,
-        (Op::Arrinit, Cmp::Lt, &[3, 0, 5]),
+        &[op::ARRINIT, 3, 0, 5],
         SHOW_2,
         END,
     ],

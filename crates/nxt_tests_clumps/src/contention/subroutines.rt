@@ -4,23 +4,21 @@ use super::{
     ACQUIRE_M, AGAIN, CALLER, COUNT_A, Case, END, MINUS_ONE, OTHER_CALLER, PAST_BYTE, RELEASE_M,
     SHOW_1, SHOW_2, SHOW_3, SHOW_4, SHOW_5, SHOW_A, TABLE, WAIT_5, YIELD,
 };
-use nxt_images::{Image, Statement};
-use nxt_types::instr::Op;
-use nxt_types::kind::Cmp;
+use nxt_images::{Image, Statement, op};
 
-const CALL_0: Statement<'static> = (Op::Subcall, Cmp::Lt, &[0, OTHER_CALLER]);
+const CALL_0: Statement<'static> = &[op::SUBCALL, 0, OTHER_CALLER];
 
-const CALL_1: Statement<'static> = (Op::Subcall, Cmp::Lt, &[1, CALLER]);
+const CALL_1: Statement<'static> = &[op::SUBCALL, 1, CALLER];
 
-const CALL_2: Statement<'static> = (Op::Subcall, Cmp::Lt, &[2, CALLER]);
+const CALL_2: Statement<'static> = &[op::SUBCALL, 2, CALLER];
 
-const SHOW_CALLER: Statement<'static> = (Op::Setout, Cmp::Lt, &[0, 5, CALLER, 0, 1]);
+const SHOW_CALLER: Statement<'static> = &[op::SETOUT, 0, 5, CALLER, 0, 1];
 
-const SHOW_OTHER_CALLER: Statement<'static> = (Op::Setout, Cmp::Lt, &[0, 5, OTHER_CALLER, 0, 1]);
+const SHOW_OTHER_CALLER: Statement<'static> = &[op::SETOUT, 0, 5, OTHER_CALLER, 0, 1];
 
-const RETURN: Statement<'static> = (Op::Subret, Cmp::Lt, &[CALLER]);
+const RETURN: Statement<'static> = &[op::SUBRET, CALLER];
 
-const RETURN_TO_OTHER: Statement<'static> = (Op::Subret, Cmp::Lt, &[OTHER_CALLER]);
+const RETURN_TO_OTHER: Statement<'static> = &[op::SUBRET, OTHER_CALLER];
 
 // Two clumps call the same subroutine, one after another, while they own a mutex.
 const SHARED: Image<'static> = Image {
@@ -51,7 +49,7 @@ const NESTED: Image<'static> = Image {
         CALL_1,
         SHOW_4,
         END,
-        (Op::Subcall, Cmp::Lt, &[2, OTHER_CALLER]),
+        &[op::SUBCALL, 2, OTHER_CALLER],
         SHOW_5,
         RETURN,
         SHOW_OTHER_CALLER,
@@ -68,7 +66,7 @@ const CROSSED: Image<'static> = Image {
         CALL_2,
         SHOW_4,
         END,
-        (Op::Subcall, Cmp::Lt, &[3, OTHER_CALLER]),
+        &[op::SUBCALL, 3, OTHER_CALLER],
         SHOW_5,
         END,
         SHOW_CALLER,
@@ -86,10 +84,10 @@ const CALLED_AND_LOWERED: Image<'static> = Image {
     code: &[
         CALL_2,
         SHOW_4,
-        (Op::Finclump, Cmp::Lt, &[0, 0]),
+        &[op::FINCLUMP, 0, 0],
         WAIT_5,
         SHOW_5,
-        (Op::Finclump, Cmp::Lt, &[0, 0]),
+        &[op::FINCLUMP, 0, 0],
         SHOW_3,
         RETURN,
     ],
@@ -104,7 +102,7 @@ const CALLS_BESIDE_COUNTS: Image<'static> = Image {
         SHOW_1,
         SHOW_1,
         SHOW_1,
-        (Op::Subcall, Cmp::Lt, &[3, CALLER]),
+        &[op::SUBCALL, 3, CALLER],
         SHOW_1,
         END,
         COUNT_A,
@@ -169,13 +167,7 @@ const ENDS: Image<'static> = Image {
 const RETURNS_TO_ITSELF: Image<'static> = Image {
     clumps: &[0, 13],
     firing: &[(0, &[]), (1, &[])],
-    code: &[
-        CALL_1,
-        SHOW_1,
-        END,
-        SHOW_CALLER,
-        (Op::Subret, Cmp::Lt, &[1]),
-    ],
+    code: &[CALL_1, SHOW_1, END, SHOW_CALLER, &[op::SUBRET, 1]],
     ..TABLE
 };
 
@@ -260,13 +252,7 @@ pub static CASES: [Case<'static>; 13] = [
     (
         "a return to 256 while clump 0 calls",
         &Image {
-            code: &[
-                CALL_1,
-                SHOW_1,
-                END,
-                SHOW_CALLER,
-                (Op::Subret, Cmp::Lt, &[PAST_BYTE]),
-            ],
+            code: &[CALL_1, SHOW_1, END, SHOW_CALLER, &[op::SUBRET, PAST_BYTE]],
             ..RETURNS_TO_ITSELF
         },
         b"run,50\n",
@@ -276,13 +262,7 @@ pub static CASES: [Case<'static>; 13] = [
     (
         "a return to -1",
         &Image {
-            code: &[
-                CALL_1,
-                SHOW_1,
-                END,
-                SHOW_CALLER,
-                (Op::Subret, Cmp::Lt, &[MINUS_ONE]),
-            ],
+            code: &[CALL_1, SHOW_1, END, SHOW_CALLER, &[op::SUBRET, MINUS_ONE]],
             ..RETURNS_TO_ITSELF
         },
         b"run,50\n",

@@ -3,21 +3,19 @@
 use super::{
     A, AGAIN, B, C, COUNT_A, Case, END, SHOW_1, SHOW_2, SHOW_3, SHOW_A, TABLE, WAIT_5, YIELD,
 };
-use nxt_images::{Image, Statement};
-use nxt_types::instr::Op;
-use nxt_types::kind::Cmp;
+use nxt_images::{Image, Statement, cmp, op};
 use nxt_types::words::LEFT_OUT;
 
-const COUNT_B: Statement<'static> = (Op::Add, Cmp::Lt, &[B, B, 1]);
+const COUNT_B: Statement<'static> = &[op::ADD, B, B, 1];
 
-const COUNT_C: Statement<'static> = (Op::Add, Cmp::Lt, &[C, C, 1]);
+const COUNT_C: Statement<'static> = &[op::ADD, C, C, 1];
 
-const SHOW_B: Statement<'static> = (Op::Setout, Cmp::Lt, &[0, 5, B, 0, 1]);
+const SHOW_B: Statement<'static> = &[op::SETOUT, 0, 5, B, 0, 1];
 
-const SHOW_C: Statement<'static> = (Op::Setout, Cmp::Lt, &[0, 5, C, 0, 1]);
+const SHOW_C: Statement<'static> = &[op::SETOUT, 0, 5, C, 0, 1];
 
 // Goes back to a count, until it is 9: eighteen bytecodes together.
-const UNTIL_9: Statement<'static> = (Op::Brcmp, Cmp::Lt, &[0xFFFC, A, 9]);
+const UNTIL_9: Statement<'static> = &[op::BRCMP, cmp::LT, 0xFFFC, A, 9];
 
 // Three clumps count without an end, in rounds of six bytecodes, four of which are counts.
 const THREE_COUNT: Image<'static> = Image {
@@ -41,7 +39,7 @@ const YIELDS: Image<'static> = Image {
         SHOW_1,
         YIELD,
         SHOW_1,
-        (Op::Wait, Cmp::Lt, &[LEFT_OUT]),
+        &[op::WAIT, LEFT_OUT],
         SHOW_1,
         END,
         SHOW_2,

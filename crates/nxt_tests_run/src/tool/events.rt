@@ -1,10 +1,8 @@
 // Scripts of every event.
 
 use super::{ENDLESS_JUMP, FINISH, MOTOR, NONE, WHOLE, command, run_words};
-use nxt_images::{EMPTY, Image, SBYTE, UBYTE, file_of};
+use nxt_images::{EMPTY, Image, SBYTE, UBYTE, file_of, op};
 use nxt_tool::Status;
-use nxt_types::instr::Op;
-use nxt_types::kind::Cmp;
 use std::test::Fail;
 
 /// Shows the scaled value of the sensor at port 2 as the power of the motor at output A, and ends. The port is at 0.
@@ -13,11 +11,7 @@ const SENSOR: Image<'static> = Image {
     static_size: 4,
     defaults: &[2, 0, 0, 2],
     clumps: &[0],
-    code: &[
-        (Op::Getin, Cmp::Lt, &[2, 0, 4]),
-        (Op::Setout, Cmp::Lt, &[1, 2, 2, 0, 3]),
-        FINISH,
-    ],
+    code: &[&[op::GETIN, 2, 0, 4], &[op::SETOUT, 1, 2, 2, 0, 3], FINISH],
     ..EMPTY
 };
 
@@ -28,9 +22,9 @@ const COUNTER: Image<'static> = Image {
     defaults: &[5, 1, 0, 2],
     clumps: &[0],
     code: &[
-        (Op::Add, Cmp::Lt, &[0, 0, 1]),
-        (Op::Setout, Cmp::Lt, &[2, 2, 0, 0, 3]),
-        (Op::Jmp, Cmp::Lt, &[0]),
+        &[op::ADD, 0, 0, 1],
+        &[op::SETOUT, 2, 2, 0, 0, 3],
+        &[op::JMP, 0],
     ],
     ..EMPTY
 };

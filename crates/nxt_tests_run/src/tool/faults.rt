@@ -94,7 +94,7 @@ fn each_fails(rt: &impl Abort, alloc: Global, row: &Row) -> Result<(), Fail> {
 }
 
 /// Ends.
-const SMALLEST: Image<'static> = Image {
+static SMALLEST: Image<'static> = Image {
     clumps: &[0],
     code: &[FINISH],
     ..EMPTY

@@ -2,7 +2,8 @@
 
 use super::{FINISH, NONE, WHOLE, command, run_words};
 use nxt_images::{
-    EMPTY, Entry, Image, NO_DEFAULT, SBYTE, SLONG, SWORD, Statement, UBYTE, ULONG, UWORD, file_of,
+    EMPTY, Entry, Image, NO_DEFAULT, SBYTE, SLONG, SWORD, Statement, UBYTE, ULONG, UWORD, cmp,
+    file_of, op,
 };
 use nxt_tool::Status;
 use nxt_types::instr::Op;
@@ -37,7 +38,7 @@ type Case<'a> = (
 );
 
 // Shows the destination. Each program ends with it, and with finclump.
-const SHOW: Statement<'static> = (Op::Setout, Cmp::Lt, &[PORT, 5, D, 0, FLAGS]);
+const SHOW: Statement<'static> = &[op::SETOUT, PORT, 5, D, 0, FLAGS];
 
 fn entries_of(x: Source, y: Source, d: u8) -> [Entry; 5] {
     [
@@ -73,55 +74,55 @@ fn program_of<'a>(
     file_of(alloc, &image)
 }
 
-const MOV: &[Statement] = &[(Op::Mov, Cmp::Lt, &[D, X]), SHOW, FINISH];
+const MOV: &[Statement] = &[&[op::MOV, D, X], SHOW, FINISH];
 
-const ADD: &[Statement] = &[(Op::Add, Cmp::Lt, &[D, X, Y]), SHOW, FINISH];
+const ADD: &[Statement] = &[&[op::ADD, D, X, Y], SHOW, FINISH];
 
 // set D, 1; brcmp over set D, 0.
 const LT: &[Statement] = &[
-    (Op::Set, Cmp::Lt, &[D, 1]),
-    (Op::Brcmp, Cmp::Lt, &[7, X, Y]),
-    (Op::Set, Cmp::Lt, &[D, 0]),
+    &[op::SET, D, 1],
+    &[op::BRCMP, cmp::LT, 7, X, Y],
+    &[op::SET, D, 0],
     SHOW,
     FINISH,
 ];
 
 const GT: &[Statement] = &[
-    (Op::Set, Cmp::Lt, &[D, 1]),
-    (Op::Brcmp, Cmp::Gt, &[7, X, Y]),
-    (Op::Set, Cmp::Lt, &[D, 0]),
+    &[op::SET, D, 1],
+    &[op::BRCMP, cmp::GT, 7, X, Y],
+    &[op::SET, D, 0],
     SHOW,
     FINISH,
 ];
 
 const LTEQ: &[Statement] = &[
-    (Op::Set, Cmp::Lt, &[D, 1]),
-    (Op::Brcmp, Cmp::Lteq, &[7, X, Y]),
-    (Op::Set, Cmp::Lt, &[D, 0]),
+    &[op::SET, D, 1],
+    &[op::BRCMP, cmp::LTEQ, 7, X, Y],
+    &[op::SET, D, 0],
     SHOW,
     FINISH,
 ];
 
 const GTEQ: &[Statement] = &[
-    (Op::Set, Cmp::Lt, &[D, 1]),
-    (Op::Brcmp, Cmp::Gteq, &[7, X, Y]),
-    (Op::Set, Cmp::Lt, &[D, 0]),
+    &[op::SET, D, 1],
+    &[op::BRCMP, cmp::GTEQ, 7, X, Y],
+    &[op::SET, D, 0],
     SHOW,
     FINISH,
 ];
 
 const EQ: &[Statement] = &[
-    (Op::Set, Cmp::Lt, &[D, 1]),
-    (Op::Brcmp, Cmp::Eq, &[7, X, Y]),
-    (Op::Set, Cmp::Lt, &[D, 0]),
+    &[op::SET, D, 1],
+    &[op::BRCMP, cmp::EQ, 7, X, Y],
+    &[op::SET, D, 0],
     SHOW,
     FINISH,
 ];
 
 const NEQ: &[Statement] = &[
-    (Op::Set, Cmp::Lt, &[D, 1]),
-    (Op::Brcmp, Cmp::Neq, &[7, X, Y]),
-    (Op::Set, Cmp::Lt, &[D, 0]),
+    &[op::SET, D, 1],
+    &[op::BRCMP, cmp::NEQ, 7, X, Y],
+    &[op::SET, D, 0],
     SHOW,
     FINISH,
 ];
@@ -164,7 +165,7 @@ static CASES: [Case<'static>; 21] = [
         (UBYTE, &[0x00]),
         (UBYTE, &[0x00]),
         SWORD,
-        &[(Op::Set, Cmp::Lt, &[D, 65535]), SHOW, FINISH],
+        &[&[op::SET, D, 65535], SHOW, FINISH],
         "4294967295",
     ),
     (
@@ -172,7 +173,7 @@ static CASES: [Case<'static>; 21] = [
         (UBYTE, &[0x00]),
         (UBYTE, &[0x00]),
         ULONG,
-        &[(Op::Set, Cmp::Lt, &[D, 65535]), SHOW, FINISH],
+        &[&[op::SET, D, 65535], SHOW, FINISH],
         "65535",
     ),
     (
@@ -268,12 +269,7 @@ static CASES: [Case<'static>; 21] = [
         (UBYTE, &[0x00]),
         (UBYTE, &[0x00]),
         UBYTE,
-        &[
-            (Op::Jmp, Cmp::Lt, &[2]),
-            (Op::Set, Cmp::Lt, &[D, 7]),
-            SHOW,
-            FINISH,
-        ],
+        &[&[op::JMP, 2], &[op::SET, D, 7], SHOW, FINISH],
         "7",
     ),
     (
@@ -282,9 +278,9 @@ static CASES: [Case<'static>; 21] = [
         (UBYTE, &[0x00]),
         UBYTE,
         &[
-            (Op::Set, Cmp::Lt, &[D, 7]),
-            (Op::Jmp, Cmp::Lt, &[5]),
-            (Op::Set, Cmp::Lt, &[D, 9]),
+            &[op::SET, D, 7],
+            &[op::JMP, 5],
+            &[op::SET, D, 9],
             SHOW,
             FINISH,
         ],
@@ -296,8 +292,8 @@ static CASES: [Case<'static>; 21] = [
         (UBYTE, &[0x0A]),
         UWORD,
         &[
-            (Op::Add, Cmp::Lt, &[D, D, X]),
-            (Op::Brcmp, Cmp::Lt, &[0xFFFC, D, Y]),
+            &[op::ADD, D, D, X],
+            &[op::BRCMP, cmp::LT, 0xFFFC, D, Y],
             SHOW,
             FINISH,
         ],
@@ -308,12 +304,7 @@ static CASES: [Case<'static>; 21] = [
         (UBYTE, &[0x00]),
         (UBYTE, &[0x00]),
         UBYTE,
-        &[
-            (Op::Set, Cmp::Lt, &[D, 7]),
-            (Op::Stop, Cmp::Lt, &[X]),
-            SHOW,
-            FINISH,
-        ],
+        &[&[op::SET, D, 7], &[op::STOP, X], SHOW, FINISH],
         "7",
     ),
 ];

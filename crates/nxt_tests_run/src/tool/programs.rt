@@ -2,11 +2,9 @@
 
 use super::{FINISH, NONE, WHOLE, command, run_words};
 use nxt_images::{
-    ARRAY, CLUSTER, EMPTY, Image, NO_DEFAULT, SBYTE, SLONG, SWORD, UBYTE, ULONG, file_of,
+    ARRAY, CLUSTER, EMPTY, Image, NO_DEFAULT, SBYTE, SLONG, SWORD, UBYTE, ULONG, cmp, file_of, op,
 };
 use nxt_tool::Status;
-use nxt_types::instr::Op;
-use nxt_types::kind::Cmp;
 use std::test::Fail;
 
 // In the programs that show something entry 0 holds the port, and entry 1 the number 1. A setout of the limit and the flags
@@ -47,22 +45,22 @@ const ARITHMETIC: Image<'static> = Image {
     rows: &[(25, 10, 1)],
     clumps: &[0],
     code: &[
-        (Op::Div, Cmp::Lt, &[9, 2, 3]),
-        (Op::Setout, Cmp::Lt, &[PORT, LIMIT, 9, CHANGES, ONE]),
-        (Op::Div, Cmp::Lt, &[10, 4, 5]),
-        (Op::Setout, Cmp::Lt, &[PORT, LIMIT, 10, CHANGES, ONE]),
-        (Op::Mod, Cmp::Lt, &[10, 6, 5]),
-        (Op::Setout, Cmp::Lt, &[PORT, LIMIT, 10, CHANGES, ONE]),
-        (Op::Div, Cmp::Lt, &[10, 6, 7]),
-        (Op::Setout, Cmp::Lt, &[PORT, LIMIT, 10, CHANGES, ONE]),
-        (Op::Mov, Cmp::Lt, &[10, 8]),
-        (Op::Setout, Cmp::Lt, &[PORT, LIMIT, 10, CHANGES, ONE]),
-        (Op::Numtostr, Cmp::Lt, &[11, 9]),
-        (Op::Arrsize, Cmp::Lt, &[14, 11]),
-        (Op::Index, Cmp::Lt, &[15, 11, 13]),
-        (Op::Setout, Cmp::Lt, &[PORT, LIMIT, 15, CHANGES, ONE]),
-        (Op::Add, Cmp::Lt, &[13, 13, 1]),
-        (Op::Brcmp, Cmp::Lt, &[0xFFF1, 13, 14]),
+        &[op::DIV, 9, 2, 3],
+        &[op::SETOUT, PORT, LIMIT, 9, CHANGES, ONE],
+        &[op::DIV, 10, 4, 5],
+        &[op::SETOUT, PORT, LIMIT, 10, CHANGES, ONE],
+        &[op::MOD, 10, 6, 5],
+        &[op::SETOUT, PORT, LIMIT, 10, CHANGES, ONE],
+        &[op::DIV, 10, 6, 7],
+        &[op::SETOUT, PORT, LIMIT, 10, CHANGES, ONE],
+        &[op::MOV, 10, 8],
+        &[op::SETOUT, PORT, LIMIT, 10, CHANGES, ONE],
+        &[op::NUMTOSTR, 11, 9],
+        &[op::ARRSIZE, 14, 11],
+        &[op::INDEX, 15, 11, 13],
+        &[op::SETOUT, PORT, LIMIT, 15, CHANGES, ONE],
+        &[op::ADD, 13, 13, 1],
+        &[op::BRCMP, cmp::LT, 0xFFF1, 13, 14],
         FINISH,
     ],
     ..EMPTY
@@ -83,10 +81,10 @@ const REMAINDER_BY_ZERO: Image<'static> = Image {
     defaults: &[1, 249, 255, 255, 255, 7],
     clumps: &[0],
     code: &[
-        (Op::Mod, Cmp::Lt, &[5, 2, 4]),
-        (Op::Setout, Cmp::Lt, &[PORT, LIMIT, 5, CHANGES, ONE]),
-        (Op::Mod, Cmp::Lt, &[5, 3, 4]),
-        (Op::Setout, Cmp::Lt, &[PORT, LIMIT, 5, CHANGES, ONE]),
+        &[op::MOD, 5, 2, 4],
+        &[op::SETOUT, PORT, LIMIT, 5, CHANGES, ONE],
+        &[op::MOD, 5, 3, 4],
+        &[op::SETOUT, PORT, LIMIT, 5, CHANGES, ONE],
         FINISH,
     ],
     ..EMPTY
@@ -110,12 +108,12 @@ const TRIPLED_LIST: Image<'static> = Image {
     lists: &[97, 98, 0],
     clumps: &[0],
     code: &[
-        (Op::Strcat, Cmp::Lt, &[2, 2, 2]),
-        (Op::Arrsize, Cmp::Lt, &[5, 2]),
-        (Op::Index, Cmp::Lt, &[6, 2, 4]),
-        (Op::Setout, Cmp::Lt, &[PORT, LIMIT, 6, CHANGES, ONE]),
-        (Op::Add, Cmp::Lt, &[4, 4, 1]),
-        (Op::Brcmp, Cmp::Lt, &[0xFFF1, 4, 5]),
+        &[op::STRCAT, 2, 2, 2],
+        &[op::ARRSIZE, 5, 2],
+        &[op::INDEX, 6, 2, 4],
+        &[op::SETOUT, PORT, LIMIT, 6, CHANGES, ONE],
+        &[op::ADD, 4, 4, 1],
+        &[op::BRCMP, cmp::LT, 0xFFF1, 4, 5],
         FINISH,
     ],
     ..EMPTY
@@ -149,17 +147,17 @@ const NESTED_LISTS: Image<'static> = Image {
     lists: &[97, 98, 0, 104, 105, 0],
     clumps: &[0],
     code: &[
-        (Op::Strcat, Cmp::Lt, &[2, 2, 2]),
-        (Op::Arrbuild, Cmp::Lt, &[6, 4, 4]),
-        (Op::Replace, Cmp::Lt, &[6, 6, 0, 2]),
-        (Op::Index, Cmp::Lt, &[4, 6, 1]),
-        (Op::Index, Cmp::Lt, &[11, 6, 0]),
-        (Op::Strcat, Cmp::Lt, &[11, 11, 4]),
-        (Op::Arrsize, Cmp::Lt, &[14, 11]),
-        (Op::Index, Cmp::Lt, &[15, 11, 13]),
-        (Op::Setout, Cmp::Lt, &[PORT, LIMIT, 15, CHANGES, ONE]),
-        (Op::Add, Cmp::Lt, &[13, 13, 1]),
-        (Op::Brcmp, Cmp::Lt, &[0xFFF1, 13, 14]),
+        &[op::STRCAT, 2, 2, 2],
+        &[op::ARRBUILD, 6, 4, 4],
+        &[op::REPLACE, 6, 6, 0, 2],
+        &[op::INDEX, 4, 6, 1],
+        &[op::INDEX, 11, 6, 0],
+        &[op::STRCAT, 11, 11, 4],
+        &[op::ARRSIZE, 14, 11],
+        &[op::INDEX, 15, 11, 13],
+        &[op::SETOUT, PORT, LIMIT, 15, CHANGES, ONE],
+        &[op::ADD, 13, 13, 1],
+        &[op::BRCMP, cmp::LT, 0xFFF1, 13, 14],
         FINISH,
     ],
     ..EMPTY
@@ -179,11 +177,7 @@ const POOL_FILLED_TO_THE_BYTE: Image<'static> = Image {
     defaults: &[220, 127, 0, 0, 221, 127, 0, 0],
     rows: &[(14, 10, 1)],
     clumps: &[0],
-    code: &[
-        (Op::Arrinit, Cmp::Lt, &[0, 2, 3]),
-        (Op::Arrinit, Cmp::Lt, &[0, 2, 4]),
-        FINISH,
-    ],
+    code: &[&[op::ARRINIT, 0, 2, 3], &[op::ARRINIT, 0, 2, 4], FINISH],
     ..EMPTY
 };
 
@@ -207,11 +201,11 @@ const GROWTH_BY_SLIDING: Image<'static> = Image {
     rows: &[(22, 10, 1)],
     clumps: &[0],
     code: &[
-        (Op::Arrinit, Cmp::Lt, &[0, 6, 7]),
-        (Op::Arrinit, Cmp::Lt, &[2, 6, 7]),
-        (Op::Arrinit, Cmp::Lt, &[4, 6, 7]),
-        (Op::Arrsubset, Cmp::Lt, &[2, 2, 6, 6]),
-        (Op::Arrinit, Cmp::Lt, &[0, 8, 9]),
+        &[op::ARRINIT, 0, 6, 7],
+        &[op::ARRINIT, 2, 6, 7],
+        &[op::ARRINIT, 4, 6, 7],
+        &[op::ARRSUBSET, 2, 2, 6, 6],
+        &[op::ARRINIT, 0, 8, 9],
         FINISH,
     ],
     ..EMPTY
@@ -235,9 +229,9 @@ const GROWTH_WITH_INNER_ROWS: Image<'static> = Image {
     rows: &[(16, 10, 1)],
     clumps: &[0],
     code: &[
-        (Op::Arrinit, Cmp::Lt, &[0, 3, 6]),
-        (Op::Arrinit, Cmp::Lt, &[0, 3, 5]),
-        (Op::Arrinit, Cmp::Lt, &[3, 5, 7]),
+        &[op::ARRINIT, 0, 3, 6],
+        &[op::ARRINIT, 0, 3, 5],
+        &[op::ARRINIT, 3, 5, 7],
         FINISH,
     ],
     ..EMPTY

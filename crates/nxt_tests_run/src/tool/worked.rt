@@ -3,10 +3,8 @@
 use super::{
     ENDLESS_JUMP, FINISH, Failing, MOTOR, MOTOR_REPORT, NONE, WHOLE, command, run_words, words_of,
 };
-use nxt_images::{CLUSTER, EMPTY, Image, SBYTE, UBYTE, UWORD, file_of};
+use nxt_images::{CLUSTER, EMPTY, Image, SBYTE, UBYTE, UWORD, cmp, file_of, op};
 use nxt_tool::Status;
-use nxt_types::instr::Op;
-use nxt_types::kind::Cmp;
 use std::alloc::Global;
 use std::process::Abort;
 use std::test::Fail;
@@ -24,9 +22,9 @@ const RISING: Image<'static> = Image {
     defaults: &[0, 2, 0, 20, 100],
     clumps: &[0],
     code: &[
-        (Op::Add, Cmp::Lt, &[2, 2, 3]),
-        (Op::Setout, Cmp::Lt, &[0, 2, 2, 0, 1]),
-        (Op::Brcmp, Cmp::Lt, &[0xFFF5, 2, 4]),
+        &[op::ADD, 2, 2, 3],
+        &[op::SETOUT, 0, 2, 2, 0, 1],
+        &[op::BRCMP, cmp::LT, 0xFFF5, 2, 4],
         FINISH,
     ],
     ..EMPTY
@@ -248,7 +246,7 @@ const INSIDE_A_STATEMENT: Image<'static> = Image {
 };
 
 const JUMP_PAST_THE_END: Image<'static> = Image {
-    code: &[(Op::Jmp, Cmp::Lt, &[1])],
+    code: &[&[op::JMP, 1]],
     ..ENDLESS_JUMP
 };
 

@@ -9,7 +9,7 @@ use std::process::Abort;
 use std::test::Fail;
 
 /// A list of two texts, a text, and a list of one signed number of 16 bits.
-const TEXTS: Image<'static> = Image {
+static TEXTS: Image<'static> = Image {
     entries: &[
         (ARRAY, 0, 0),
         (ARRAY, 0, 0),

@@ -13,7 +13,7 @@ use std::process::Abort;
 use std::test::Fail;
 
 /// A list of the three bytes of a text.
-const LETTERS: Image<'static> = Image {
+static LETTERS: Image<'static> = Image {
     entries: &[(ARRAY, 0, 0), (UBYTE, 0, 0)],
     static_size: 2,
     defaults: &[1, 0],
@@ -98,7 +98,7 @@ fn a_list_lends_its_bytes(rt: HostRuntime) -> Result<(), Fail> {
 
 /// A list of lists of bytes, [[5], [7, 8, 9]]: row 1 has the numbers of rows 3 and 2, which are 3 bytes apart, and the bytes
 /// in those are 2 apart. The table has two rows more than it needs.
-const WIDE: Image<'static> = Image {
+static WIDE: Image<'static> = Image {
     entries: &[(ARRAY, 0, 0), (ARRAY, 0, 0), (UBYTE, 0, 0)],
     static_size: 2,
     defaults: &[1, 0],
@@ -138,7 +138,7 @@ fn lists_in_lists_start_with_the_strides_of_the_file(rt: HostRuntime) -> Result<
 
 /// A list of lists of bytes; a cluster of a word and a list of clusters of a byte and a list of words; and a number. The
 /// strides are 2 and 1, 3 and 2, and there are 10 static bytes.
-const NESTED: Image<'static> = Image {
+static NESTED: Image<'static> = Image {
     entries: &[
         (ARRAY, NO_DEFAULT, 0),
         (ARRAY, 0, 0),

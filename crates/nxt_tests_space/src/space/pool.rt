@@ -11,7 +11,7 @@ use std::process::Abort;
 use std::test::Fail;
 
 /// A list of bytes, and a list of lists of bytes.
-const POOL: Image<'static> = Image {
+static POOL: Image<'static> = Image {
     entries: &[
         (ARRAY, NO_DEFAULT, 0),
         (UBYTE, 0, 0),

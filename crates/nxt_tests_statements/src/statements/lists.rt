@@ -3,10 +3,8 @@
 
 use super::{Case, DONE, check_cases};
 use nxt_images::{
-    ARRAY, CLUSTER, EMPTY, Image, NO_DEFAULT, SBYTE, SLONG, SWORD, UBYTE, ULONG, UWORD,
+    ARRAY, CLUSTER, EMPTY, Image, NO_DEFAULT, SBYTE, SLONG, SWORD, UBYTE, ULONG, UWORD, op,
 };
-use nxt_types::instr::Op;
-use nxt_types::kind::Cmp;
 use std::test::Fail;
 
 // The numbers, by their entries. All of them are 0 at first.
@@ -100,7 +98,7 @@ pub const SPACED: u16 = 66;
 /// An operand that is left out.
 pub const LEFT: u16 = 0xFFFF;
 
-pub const VARIABLES: Image<'static> = Image {
+pub static VARIABLES: Image<'static> = Image {
     entries: &[
         (UBYTE, NO_DEFAULT, 0),
         (SBYTE, NO_DEFAULT, 1),
@@ -222,74 +220,59 @@ pub const VARIABLES: Image<'static> = Image {
 
 static INDEX: [Case<'static>; 20] = [
     // Index: the list's element, or the zero value past the end.
+    (&[op::INDEX, UB, BYTES, LEFT], &[], &[(UB, &[250])], DONE),
+    (&[op::INDEX, SB, BYTES, UB], &[], &[(SB, &[-6])], DONE),
+    (&[op::INDEX, SL, BYTES, UB], &[(UB, 2)], &[(SL, &[2])], DONE),
     (
-        (Op::Index, Cmp::Lt, &[UB, BYTES, LEFT]),
-        &[],
-        &[(UB, &[250])],
-        DONE,
-    ),
-    (
-        (Op::Index, Cmp::Lt, &[SB, BYTES, UB]),
-        &[],
-        &[(SB, &[-6])],
-        DONE,
-    ),
-    (
-        (Op::Index, Cmp::Lt, &[SL, BYTES, UB]),
-        &[(UB, 2)],
-        &[(SL, &[2])],
-        DONE,
-    ),
-    (
-        (Op::Index, Cmp::Lt, &[SL, BYTES, UB]),
+        &[op::INDEX, SL, BYTES, UB],
         &[(UB, 3), (SL, 9)],
         &[(SL, &[0])],
         DONE,
     ),
     (
-        (Op::Index, Cmp::Lt, &[SL, LONGS, UB]),
+        &[op::INDEX, SL, LONGS, UB],
         &[(UB, 1)],
         &[(SL, &[2147483647])],
         DONE,
     ),
     (
-        (Op::Index, Cmp::Lt, &[SL, LONGS, SB]),
+        &[op::INDEX, SL, LONGS, SB],
         &[(SB, -1), (SL, 9)],
         &[(SL, &[0]), (SB, &[-1])],
         DONE,
     ),
     (
-        (Op::Index, Cmp::Lt, &[UB, WORDS, UB]),
+        &[op::INDEX, UB, WORDS, UB],
         &[(UB, 1)],
         &[(UB, &[44])],
         DONE,
     ),
     (
-        (Op::Index, Cmp::Lt, &[SL, NONE, LEFT]),
+        &[op::INDEX, SL, NONE, LEFT],
         &[(SL, 9)],
         &[(SL, &[0])],
         DONE,
     ),
     (
-        (Op::Index, Cmp::Lt, &[BYTES, PAIRS, LEFT]),
+        &[op::INDEX, BYTES, PAIRS, LEFT],
         &[],
         &[(BYTES, &[2, 1, 2]), (PAIRS, &[2, 2, 1, 2, 0])],
         DONE,
     ),
     (
-        (Op::Index, Cmp::Lt, &[BYTES, PAIRS, UB]),
+        &[op::INDEX, BYTES, PAIRS, UB],
         &[(UB, 2)],
         &[(BYTES, &[0])],
         DONE,
     ),
     (
-        (Op::Index, Cmp::Lt, &[BYTES, WIDE, UB]),
+        &[op::INDEX, BYTES, WIDE, UB],
         &[],
         &[(BYTES, &[2, 44, 255]), (WIDE, &[2, 2, 300, -1, 1, 7])],
         DONE,
     ),
     (
-        (Op::Index, Cmp::Lt, &[PAIRS, DEEP, UB]),
+        &[op::INDEX, PAIRS, DEEP, UB],
         &[],
         &[
             (PAIRS, &[2, 2, 1, 2, 1, 3]),
@@ -298,13 +281,13 @@ static INDEX: [Case<'static>; 20] = [
         DONE,
     ),
     (
-        (Op::Index, Cmp::Lt, &[PAIRS, DEEP, UB]),
+        &[op::INDEX, PAIRS, DEEP, UB],
         &[(UB, 1)],
         &[(PAIRS, &[0])],
         DONE,
     ),
     (
-        (Op::Index, Cmp::Lt, &[PAIRS, DEEPER, LEFT]),
+        &[op::INDEX, PAIRS, DEEPER, LEFT],
         &[],
         &[
             (PAIRS, &[2, 1, 44, 1, 255]),
@@ -313,13 +296,13 @@ static INDEX: [Case<'static>; 20] = [
         DONE,
     ),
     (
-        (Op::Index, Cmp::Lt, &[WIDE, DEEPER, UB]),
+        &[op::INDEX, WIDE, DEEPER, UB],
         &[(UB, 1)],
         &[(WIDE, &[0])],
         DONE,
     ),
     (
-        (Op::Index, Cmp::Lt, &[GROUP, GROUPS, LEFT]),
+        &[op::INDEX, GROUP, GROUPS, LEFT],
         &[],
         &[
             (GROUP, &[253, 1, 8, 4464]),
@@ -328,25 +311,25 @@ static INDEX: [Case<'static>; 20] = [
         DONE,
     ),
     (
-        (Op::Index, Cmp::Lt, &[GROUP, GROUPS, UB]),
+        &[op::INDEX, GROUP, GROUPS, UB],
         &[(UB, 2)],
         &[(GROUP, &[0, 0, 0])],
         DONE,
     ),
     (
-        (Op::Index, Cmp::Lt, &[LAST, LONGS, UB]),
+        &[op::INDEX, LAST, LONGS, UB],
         &[(UB, 1)],
         &[(GROUP, &[9, 2, 5, -6, -1])],
         DONE,
     ),
     (
-        (Op::Index, Cmp::Lt, &[MIDDLE, PAIRS, LEFT]),
+        &[op::INDEX, MIDDLE, PAIRS, LEFT],
         &[],
         &[(GROUP, &[9, 2, 1, 2, -7])],
         DONE,
     ),
     (
-        (Op::Index, Cmp::Lt, &[SL, SPACED, UB]),
+        &[op::INDEX, SL, SPACED, UB],
         &[(UB, 1)],
         &[(SL, &[6])],
         DONE,
@@ -361,73 +344,73 @@ fn index_reads_an_element(rt: HostRuntime) -> Result<(), Fail> {
 static REPLACE: [Case<'static>; 25] = [
     // Replace: an element, or as many elements as fit; past the end nothing.
     (
-        (Op::Replace, Cmp::Lt, &[BYTES, BYTES, LEFT, SL]),
+        &[op::REPLACE, BYTES, BYTES, LEFT, SL],
         &[(SL, 300)],
         &[(BYTES, &[3, 44, 1, 2])],
         DONE,
     ),
     (
-        (Op::Replace, Cmp::Lt, &[BYTES, BYTES, UB, SB]),
+        &[op::REPLACE, BYTES, BYTES, UB, SB],
         &[(UB, 2), (SB, -1)],
         &[(BYTES, &[3, 250, 1, 255])],
         DONE,
     ),
     (
-        (Op::Replace, Cmp::Lt, &[BYTES, BYTES, UB, SL]),
+        &[op::REPLACE, BYTES, BYTES, UB, SL],
         &[(UB, 3), (SL, 9)],
         &[(BYTES, &[3, 250, 1, 2])],
         DONE,
     ),
     (
-        (Op::Replace, Cmp::Lt, &[BYTES, BYTES, SB, SL]),
+        &[op::REPLACE, BYTES, BYTES, SB, SL],
         &[(SB, -1), (SL, 9)],
         &[(BYTES, &[3, 250, 1, 2])],
         DONE,
     ),
     (
-        (Op::Replace, Cmp::Lt, &[BYTES, BYTES, UB, BYTES]),
+        &[op::REPLACE, BYTES, BYTES, UB, BYTES],
         &[],
         &[(BYTES, &[3, 250, 1, 2])],
         DONE,
     ),
     (
-        (Op::Replace, Cmp::Lt, &[BYTES, BYTES, UB, BYTES]),
+        &[op::REPLACE, BYTES, BYTES, UB, BYTES],
         &[(UB, 1)],
         &[(BYTES, &[3, 250, 250, 1])],
         DONE,
     ),
     (
-        (Op::Replace, Cmp::Lt, &[BYTES, BYTES, UB, TEXT]),
+        &[op::REPLACE, BYTES, BYTES, UB, TEXT],
         &[(UB, 2)],
         &[(BYTES, &[3, 250, 1, 97]), (TEXT, &[3, 97, 98, 0])],
         DONE,
     ),
     (
-        (Op::Replace, Cmp::Lt, &[BYTES, BYTES, UB, TEXT]),
+        &[op::REPLACE, BYTES, BYTES, UB, TEXT],
         &[(UB, 3)],
         &[(BYTES, &[3, 250, 1, 2])],
         DONE,
     ),
     (
-        (Op::Replace, Cmp::Lt, &[BYTES, BYTES, SB, TEXT]),
+        &[op::REPLACE, BYTES, BYTES, SB, TEXT],
         &[(SB, -1)],
         &[(BYTES, &[3, 250, 1, 2])],
         DONE,
     ),
     (
-        (Op::Replace, Cmp::Lt, &[BYTES, BYTES, LEFT, NONE]),
+        &[op::REPLACE, BYTES, BYTES, LEFT, NONE],
         &[],
         &[(BYTES, &[3, 250, 1, 2])],
         DONE,
     ),
     (
-        (Op::Replace, Cmp::Lt, &[NONE, NONE, LEFT, SL]),
+        &[op::REPLACE, NONE, NONE, LEFT, SL],
         &[(SL, 1)],
         &[(NONE, &[0])],
         DONE,
     ),
     (
-        (Op::Replace, Cmp::Lt, &[NONE, NUMERALS, UB, NUMERALS]),
+        &[op::REPLACE, NONE, NUMERALS, UB, NUMERALS],
         &[(UB, 25)],
         &[(
             NONE,
@@ -439,80 +422,80 @@ static REPLACE: [Case<'static>; 25] = [
         DONE,
     ),
     (
-        (Op::Replace, Cmp::Lt, &[WORDS, WORDS, UB, LONGS]),
+        &[op::REPLACE, WORDS, WORDS, UB, LONGS],
         &[(UB, 1)],
         &[(WORDS, &[3, -1, -2, -1])],
         DONE,
     ),
     // The new numbers are not cut to the kind of the second operand.
     (
-        (Op::Replace, Cmp::Lt, &[LONGS, BYTES, UB, SL]),
+        &[op::REPLACE, LONGS, BYTES, UB, SL],
         &[(UB, 1), (SL, 70000)],
         &[(LONGS, &[3, 250, 70000, 2]), (BYTES, &[3, 250, 1, 2])],
         DONE,
     ),
     (
-        (Op::Replace, Cmp::Lt, &[LONGS, BYTES, UB, WORDS]),
+        &[op::REPLACE, LONGS, BYTES, UB, WORDS],
         &[(UB, 1)],
         &[(LONGS, &[3, 250, -1, 300]), (BYTES, &[3, 250, 1, 2])],
         DONE,
     ),
     (
-        (Op::Replace, Cmp::Lt, &[PAIRS, PAIRS, UB, BYTES]),
+        &[op::REPLACE, PAIRS, PAIRS, UB, BYTES],
         &[(UB, 1)],
         &[(PAIRS, &[2, 2, 1, 2, 3, 250, 1, 2])],
         DONE,
     ),
     (
-        (Op::Replace, Cmp::Lt, &[PAIRS, PAIRS, UB, WIDE]),
+        &[op::REPLACE, PAIRS, PAIRS, UB, WIDE],
         &[(UB, 1)],
         &[(PAIRS, &[2, 2, 1, 2, 2, 44, 255])],
         DONE,
     ),
     (
-        (Op::Replace, Cmp::Lt, &[DEEP, DEEP, UB, PAIRS]),
+        &[op::REPLACE, DEEP, DEEP, UB, PAIRS],
         &[(UB, 1)],
         &[(DEEP, &[2, 2, 2, 1, 2, 1, 3, 2, 2, 1, 2, 0])],
         DONE,
     ),
     (
-        (Op::Replace, Cmp::Lt, &[DEEP, DEEP, LEFT, DEEPER]),
+        &[op::REPLACE, DEEP, DEEP, LEFT, DEEPER],
         &[],
         &[(DEEP, &[2, 2, 1, 44, 1, 255, 0])],
         DONE,
     ),
     (
-        (Op::Replace, Cmp::Lt, &[DEEP, DEEP, UB, PAIRS]),
+        &[op::REPLACE, DEEP, DEEP, UB, PAIRS],
         &[(UB, 2)],
         &[(DEEP, &[2, 2, 2, 1, 2, 1, 3, 0])],
         DONE,
     ),
     (
-        (Op::Replace, Cmp::Lt, &[DEEP, DEEP, UB, DEEP]),
+        &[op::REPLACE, DEEP, DEEP, UB, DEEP],
         &[],
         &[(DEEP, &[2, 2, 2, 1, 2, 1, 3, 0])],
         DONE,
     ),
     (
-        (Op::Replace, Cmp::Lt, &[GROUPS, GROUPS, UB, GROUP]),
+        &[op::REPLACE, GROUPS, GROUPS, UB, GROUP],
         &[(UB, 1)],
         &[(GROUPS, &[2, -3, 1, 8, 70000, 9, 2, 5, 250, -7])],
         DONE,
     ),
     (
-        (Op::Replace, Cmp::Lt, &[MIDDLE, MIDDLE, LEFT, SL]),
+        &[op::REPLACE, MIDDLE, MIDDLE, LEFT, SL],
         &[(SL, 70000)],
         &[(GROUP, &[9, 2, 4464, -6, -7])],
         DONE,
     ),
     (
-        (Op::Replace, Cmp::Lt, &[SPACED, SPACED, UB, SL]),
+        &[op::REPLACE, SPACED, SPACED, UB, SL],
         &[(UB, 1), (SL, 300)],
         &[(SPACED, &[2, 5, 44])],
         DONE,
     ),
     (
-        (Op::Replace, Cmp::Lt, &[MIDDLE, WORDS, LEFT, MIDDLE]),
+        &[op::REPLACE, MIDDLE, WORDS, LEFT, MIDDLE],
         &[],
         &[(GROUP, &[9, 3, 5, -6, -32768, -7])],
         DONE,
@@ -526,42 +509,17 @@ fn replace_changes_an_element(rt: HostRuntime) -> Result<(), Fail> {
 
 static ARRSIZE: [Case<'static>; 6] = [
     // Arrsize.
+    (&[op::ARRSIZE, SL, NONE], &[(SL, 9)], &[(SL, &[0])], DONE),
+    (&[op::ARRSIZE, UB, TEXT], &[], &[(UB, &[3])], DONE),
+    (&[op::ARRSIZE, UB, DEEP], &[], &[(UB, &[2])], DONE),
+    (&[op::ARRSIZE, SB, DEEPER], &[], &[(SB, &[1])], DONE),
     (
-        (Op::Arrsize, Cmp::Lt, &[SL, NONE]),
-        &[(SL, 9)],
-        &[(SL, &[0])],
-        DONE,
-    ),
-    (
-        (Op::Arrsize, Cmp::Lt, &[UB, TEXT]),
-        &[],
-        &[(UB, &[3])],
-        DONE,
-    ),
-    (
-        (Op::Arrsize, Cmp::Lt, &[UB, DEEP]),
-        &[],
-        &[(UB, &[2])],
-        DONE,
-    ),
-    (
-        (Op::Arrsize, Cmp::Lt, &[SB, DEEPER]),
-        &[],
-        &[(SB, &[1])],
-        DONE,
-    ),
-    (
-        (Op::Arrsize, Cmp::Lt, &[LAST, GROUPS]),
+        &[op::ARRSIZE, LAST, GROUPS],
         &[],
         &[(GROUP, &[9, 2, 5, -6, 2])],
         DONE,
     ),
-    (
-        (Op::Arrsize, Cmp::Lt, &[UL, MIDDLE]),
-        &[],
-        &[(UL, &[2])],
-        DONE,
-    ),
+    (&[op::ARRSIZE, UL, MIDDLE], &[], &[(UL, &[2])], DONE),
 ];
 
 #[test]
@@ -572,61 +530,56 @@ fn arrsize_counts_elements(rt: HostRuntime) -> Result<(), Fail> {
 static ARRBUILD: [Case<'static>; 13] = [
     // Arrbuild: elements, and lists that give theirs.
     (
-        (Op::Arrbuild, Cmp::Lt, &[BYTES, SL]),
+        &[op::ARRBUILD, BYTES, SL],
         &[(SL, 300)],
         &[(BYTES, &[1, 44])],
         DONE,
     ),
     (
-        (Op::Arrbuild, Cmp::Lt, &[BYTES, BYTES, BYTES]),
+        &[op::ARRBUILD, BYTES, BYTES, BYTES],
         &[],
         &[(BYTES, &[6, 250, 1, 2, 250, 1, 2])],
         DONE,
     ),
+    (&[op::ARRBUILD, BYTES, NONE], &[], &[(BYTES, &[0])], DONE),
     (
-        (Op::Arrbuild, Cmp::Lt, &[BYTES, NONE]),
-        &[],
-        &[(BYTES, &[0])],
-        DONE,
-    ),
-    (
-        (Op::Arrbuild, Cmp::Lt, &[NONE, NONE, NONE]),
+        &[op::ARRBUILD, NONE, NONE, NONE],
         &[],
         &[(NONE, &[0])],
         DONE,
     ),
     (
-        (Op::Arrbuild, Cmp::Lt, &[BYTES, UB, TEXT, NONE, SB]),
+        &[op::ARRBUILD, BYTES, UB, TEXT, NONE, SB],
         &[(UB, 7), (SB, -1)],
         &[(BYTES, &[5, 7, 97, 98, 0, 255])],
         DONE,
     ),
     (
-        (Op::Arrbuild, Cmp::Lt, &[WORDS, LONGS, SL, BYTES]),
+        &[op::ARRBUILD, WORDS, LONGS, SL, BYTES],
         &[(SL, 70000)],
         &[(WORDS, &[6, -2, -1, 4464, 250, 1, 2])],
         DONE,
     ),
     (
-        (Op::Arrbuild, Cmp::Lt, &[PAIRS, BYTES, PAIRS, NONE]),
+        &[op::ARRBUILD, PAIRS, BYTES, PAIRS, NONE],
         &[],
         &[(PAIRS, &[4, 3, 250, 1, 2, 2, 1, 2, 0, 0])],
         DONE,
     ),
     (
-        (Op::Arrbuild, Cmp::Lt, &[PAIRS, WIDE, TEXT]),
+        &[op::ARRBUILD, PAIRS, WIDE, TEXT],
         &[],
         &[(PAIRS, &[3, 2, 44, 255, 1, 7, 3, 97, 98, 0])],
         DONE,
     ),
     (
-        (Op::Arrbuild, Cmp::Lt, &[DEEP, DEEP, DEEP]),
+        &[op::ARRBUILD, DEEP, DEEP, DEEP],
         &[],
         &[(DEEP, &[4, 2, 2, 1, 2, 1, 3, 0, 2, 2, 1, 2, 1, 3, 0])],
         DONE,
     ),
     (
-        (Op::Arrbuild, Cmp::Lt, &[DEEP, PAIRS, DEEP, DEEPER]),
+        &[op::ARRBUILD, DEEP, PAIRS, DEEP, DEEPER],
         &[],
         &[(
             DEEP,
@@ -635,19 +588,19 @@ static ARRBUILD: [Case<'static>; 13] = [
         DONE,
     ),
     (
-        (Op::Arrbuild, Cmp::Lt, &[GROUPS, GROUP, GROUPS]),
+        &[op::ARRBUILD, GROUPS, GROUP, GROUPS],
         &[],
         &[(GROUPS, &[3, 9, 2, 5, 250, -7, -3, 1, 8, 70000, 4, 0, -1])],
         DONE,
     ),
     (
-        (Op::Arrbuild, Cmp::Lt, &[MIDDLE, UB, MIDDLE]),
+        &[op::ARRBUILD, MIDDLE, UB, MIDDLE],
         &[(UB, 1)],
         &[(GROUP, &[9, 3, 1, 5, -6, -7])],
         DONE,
     ),
     (
-        (Op::Arrbuild, Cmp::Lt, &[SPACED, SPACED, UB, BYTES]),
+        &[op::ARRBUILD, SPACED, SPACED, UB, BYTES],
         &[(UB, 7)],
         &[(SPACED, &[6, 5, 6, 7, 250, 1, 2])],
         DONE,
@@ -662,109 +615,109 @@ fn arrbuild_joins_values(rt: HostRuntime) -> Result<(), Fail> {
 static ARRSUBSET: [Case<'static>; 18] = [
     // Arrsubset: the rest from an index on, or so many elements of it.
     (
-        (Op::Arrsubset, Cmp::Lt, &[NONE, BYTES, LEFT, LEFT]),
+        &[op::ARRSUBSET, NONE, BYTES, LEFT, LEFT],
         &[],
         &[(NONE, &[3, 250, 1, 2]), (BYTES, &[3, 250, 1, 2])],
         DONE,
     ),
     (
-        (Op::Arrsubset, Cmp::Lt, &[NONE, BYTES, UB, LEFT]),
+        &[op::ARRSUBSET, NONE, BYTES, UB, LEFT],
         &[(UB, 1)],
         &[(NONE, &[2, 1, 2])],
         DONE,
     ),
     (
-        (Op::Arrsubset, Cmp::Lt, &[NONE, BYTES, LEFT, UB]),
+        &[op::ARRSUBSET, NONE, BYTES, LEFT, UB],
         &[(UB, 2)],
         &[(NONE, &[2, 250, 1])],
         DONE,
     ),
     (
-        (Op::Arrsubset, Cmp::Lt, &[BYTES, BYTES, UB, UB]),
+        &[op::ARRSUBSET, BYTES, BYTES, UB, UB],
         &[(UB, 1)],
         &[(BYTES, &[1, 1])],
         DONE,
     ),
     (
-        (Op::Arrsubset, Cmp::Lt, &[BYTES, BYTES, UB, LEFT]),
+        &[op::ARRSUBSET, BYTES, BYTES, UB, LEFT],
         &[(UB, 3)],
         &[(BYTES, &[0])],
         DONE,
     ),
     (
-        (Op::Arrsubset, Cmp::Lt, &[BYTES, BYTES, UB, UW]),
+        &[op::ARRSUBSET, BYTES, BYTES, UB, UW],
         &[(UB, 2), (UW, 5)],
         &[(BYTES, &[1, 2])],
         DONE,
     ),
     (
-        (Op::Arrsubset, Cmp::Lt, &[BYTES, BYTES, SB, LEFT]),
+        &[op::ARRSUBSET, BYTES, BYTES, SB, LEFT],
         &[(SB, -1)],
         &[(BYTES, &[0])],
         DONE,
     ),
     (
-        (Op::Arrsubset, Cmp::Lt, &[BYTES, BYTES, LEFT, UB]),
+        &[op::ARRSUBSET, BYTES, BYTES, LEFT, UB],
         &[],
         &[(BYTES, &[0])],
         DONE,
     ),
     (
-        (Op::Arrsubset, Cmp::Lt, &[BYTES, BYTES, UB, SB]),
+        &[op::ARRSUBSET, BYTES, BYTES, UB, SB],
         &[(UB, 1), (SB, -1)],
         &[(BYTES, &[2, 1, 2])],
         DONE,
     ),
     (
-        (Op::Arrsubset, Cmp::Lt, &[BYTES, BYTES, SL, SL]),
+        &[op::ARRSUBSET, BYTES, BYTES, SL, SL],
         &[(SL, -1)],
         &[(BYTES, &[0])],
         DONE,
     ),
     (
-        (Op::Arrsubset, Cmp::Lt, &[NONE, WORDS, UB, UB]),
+        &[op::ARRSUBSET, NONE, WORDS, UB, UB],
         &[(UB, 1)],
         &[(NONE, &[1, 44])],
         DONE,
     ),
     (
-        (Op::Arrsubset, Cmp::Lt, &[NONE, NONE, LEFT, LEFT]),
+        &[op::ARRSUBSET, NONE, NONE, LEFT, LEFT],
         &[],
         &[(NONE, &[0])],
         DONE,
     ),
     (
-        (Op::Arrsubset, Cmp::Lt, &[PAIRS, WIDE, UB, LEFT]),
+        &[op::ARRSUBSET, PAIRS, WIDE, UB, LEFT],
         &[(UB, 1)],
         &[(PAIRS, &[1, 1, 7])],
         DONE,
     ),
     (
-        (Op::Arrsubset, Cmp::Lt, &[DEEP, DEEP, LEFT, UB]),
+        &[op::ARRSUBSET, DEEP, DEEP, LEFT, UB],
         &[(UB, 1)],
         &[(DEEP, &[1, 2, 2, 1, 2, 1, 3])],
         DONE,
     ),
     (
-        (Op::Arrsubset, Cmp::Lt, &[DEEP, DEEP, UB, SB]),
+        &[op::ARRSUBSET, DEEP, DEEP, UB, SB],
         &[(UB, 1), (SB, -1)],
         &[(DEEP, &[1, 0])],
         DONE,
     ),
     (
-        (Op::Arrsubset, Cmp::Lt, &[DEEP, DEEPER, LEFT, LEFT]),
+        &[op::ARRSUBSET, DEEP, DEEPER, LEFT, LEFT],
         &[],
         &[(DEEP, &[1, 2, 1, 44, 1, 255])],
         DONE,
     ),
     (
-        (Op::Arrsubset, Cmp::Lt, &[GROUPS, GROUPS, UB, LEFT]),
+        &[op::ARRSUBSET, GROUPS, GROUPS, UB, LEFT],
         &[(UB, 1)],
         &[(GROUPS, &[1, 4, 0, -1])],
         DONE,
     ),
     (
-        (Op::Arrsubset, Cmp::Lt, &[SPACED, SPACED, UB, LEFT]),
+        &[op::ARRSUBSET, SPACED, SPACED, UB, LEFT],
         &[(UB, 1)],
         &[(SPACED, &[1, 6])],
         DONE,
@@ -779,55 +732,50 @@ fn arrsubset_takes_a_part(rt: HostRuntime) -> Result<(), Fail> {
 static ARRINIT: [Case<'static>; 9] = [
     // Arrinit: so many copies.
     (
-        (Op::Arrinit, Cmp::Lt, &[BYTES, SL, UB]),
+        &[op::ARRINIT, BYTES, SL, UB],
         &[(SL, 300), (UB, 3)],
         &[(BYTES, &[3, 44, 44, 44])],
         DONE,
     ),
     (
-        (Op::Arrinit, Cmp::Lt, &[BYTES, SL, UB]),
+        &[op::ARRINIT, BYTES, SL, UB],
         &[(SL, 300)],
         &[(BYTES, &[0])],
         DONE,
     ),
     (
-        (Op::Arrinit, Cmp::Lt, &[LONGS, UB, UB]),
+        &[op::ARRINIT, LONGS, UB, UB],
         &[(UB, 2)],
         &[(LONGS, &[2, 2, 2])],
         DONE,
     ),
     (
-        (Op::Arrinit, Cmp::Lt, &[PAIRS, TEXT, UB]),
+        &[op::ARRINIT, PAIRS, TEXT, UB],
         &[(UB, 2)],
         &[(PAIRS, &[2, 3, 97, 98, 0, 3, 97, 98, 0])],
         DONE,
     ),
     (
-        (Op::Arrinit, Cmp::Lt, &[PAIRS, NONE, UB]),
+        &[op::ARRINIT, PAIRS, NONE, UB],
         &[(UB, 3)],
         &[(PAIRS, &[3, 0, 0, 0])],
         DONE,
     ),
     (
-        (Op::Arrinit, Cmp::Lt, &[DEEP, WIDE, UB]),
+        &[op::ARRINIT, DEEP, WIDE, UB],
         &[(UB, 2)],
         &[(DEEP, &[2, 2, 2, 44, 255, 1, 7, 2, 2, 44, 255, 1, 7])],
         DONE,
     ),
+    (&[op::ARRINIT, DEEP, PAIRS, UB], &[], &[(DEEP, &[0])], DONE),
     (
-        (Op::Arrinit, Cmp::Lt, &[DEEP, PAIRS, UB]),
-        &[],
-        &[(DEEP, &[0])],
-        DONE,
-    ),
-    (
-        (Op::Arrinit, Cmp::Lt, &[GROUPS, GROUP, UB]),
+        &[op::ARRINIT, GROUPS, GROUP, UB],
         &[(UB, 2)],
         &[(GROUPS, &[2, 9, 2, 5, 250, -7, 9, 2, 5, 250, -7])],
         DONE,
     ),
     (
-        (Op::Arrinit, Cmp::Lt, &[PAIRS, SPACED, UB]),
+        &[op::ARRINIT, PAIRS, SPACED, UB],
         &[(UB, 2)],
         &[(PAIRS, &[2, 2, 5, 6, 2, 5, 6])],
         DONE,

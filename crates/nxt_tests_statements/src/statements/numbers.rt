@@ -2,11 +2,9 @@
 
 use super::{Case, DONE, check_cases};
 use nxt_images::{
-    ARRAY, EMPTY, Image, MUTEX, NO_DEFAULT, SBYTE, SLONG, SWORD, UBYTE, ULONG, UWORD,
+    ARRAY, EMPTY, Image, MUTEX, NO_DEFAULT, SBYTE, SLONG, SWORD, UBYTE, ULONG, UWORD, cmp, op,
 };
 use nxt_ops::Next;
-use nxt_types::instr::Op;
-use nxt_types::kind::Cmp;
 use std::test::Fail;
 
 // The numbers, by their entries.
@@ -34,7 +32,7 @@ const LONGS: u16 = 10;
 /// A list of uword, [1, 2].
 const HEAD: u16 = 12;
 
-const ENDS: Image<'static> = Image {
+static ENDS: Image<'static> = Image {
     entries: &[
         (UBYTE, NO_DEFAULT, 0),
         (SBYTE, NO_DEFAULT, 1),
@@ -63,133 +61,108 @@ const ENDS: Image<'static> = Image {
 
 static ARITHMETIC: [Case<'static>; 21] = [
     (
-        (Op::Add, Cmp::Lt, &[UL, UL, UW]),
+        &[op::ADD, UL, UL, UW],
         &[(UL, 4294967295), (UW, 2)],
         &[(UL, &[1]), (UW, &[2])],
         DONE,
     ),
     (
-        (Op::Add, Cmp::Lt, &[SB, SB, UB]),
+        &[op::ADD, SB, SB, UB],
         &[(SB, 127), (UB, 1)],
         &[(SB, &[-128]), (UB, &[1])],
         DONE,
     ),
     (
-        (Op::Sub, Cmp::Lt, &[UW, UB, SB]),
+        &[op::SUB, UW, UB, SB],
         &[(SB, 1)],
         &[(UW, &[65535]), (UB, &[0]), (SB, &[1])],
         DONE,
     ),
     (
-        (Op::Mul, Cmp::Lt, &[SL, SL, SW]),
+        &[op::MUL, SL, SL, SW],
         &[(SL, -2147483648), (SW, -1)],
         &[(SL, &[-2147483648])],
         DONE,
     ),
     (
-        (Op::Mul, Cmp::Lt, &[UL, UW, UW]),
+        &[op::MUL, UL, UW, UW],
         &[(UW, 65535)],
         &[(UL, &[4294836225])],
         DONE,
     ),
     // A quotient is cut toward zero.
     (
-        (Op::Div, Cmp::Lt, &[SL, SL, SB]),
+        &[op::DIV, SL, SL, SB],
         &[(SL, -7), (SB, 2)],
         &[(SL, &[-3])],
         DONE,
     ),
     (
-        (Op::Div, Cmp::Lt, &[SL, SL, SB]),
+        &[op::DIV, SL, SL, SB],
         &[(SL, -2147483648), (SB, -1)],
         &[(SL, &[-2147483648])],
         DONE,
     ),
     // One signed kind makes both signed.
     (
-        (Op::Div, Cmp::Lt, &[UL, UL, UB]),
+        &[op::DIV, UL, UL, UB],
         &[(UL, 4294967289), (UB, 2)],
         &[(UL, &[2147483644])],
         DONE,
     ),
     (
-        (Op::Div, Cmp::Lt, &[UL, UL, SB]),
+        &[op::DIV, UL, UL, SB],
         &[(UL, 4294967289), (SB, 2)],
         &[(UL, &[4294967293])],
         DONE,
     ),
+    (&[op::DIV, SW, SW, UB], &[(SW, 5)], &[(SW, &[0])], DONE),
     (
-        (Op::Div, Cmp::Lt, &[SW, SW, UB]),
-        &[(SW, 5)],
-        &[(SW, &[0])],
-        DONE,
-    ),
-    (
-        (Op::Mod, Cmp::Lt, &[SL, SL, SB]),
+        &[op::MOD, SL, SL, SB],
         &[(SL, -7), (SB, 3)],
         &[(SL, &[-1])],
         DONE,
     ),
     (
-        (Op::Mod, Cmp::Lt, &[SL, SL, SB]),
+        &[op::MOD, SL, SL, SB],
         &[(SL, 7), (SB, -3)],
         &[(SL, &[1])],
         DONE,
     ),
     (
-        (Op::Mod, Cmp::Lt, &[UB, UL, UW]),
+        &[op::MOD, UB, UL, UW],
         &[(UL, 4294967289), (UW, 10)],
         &[(UB, &[9])],
         DONE,
     ),
     (
-        (Op::Mod, Cmp::Lt, &[SL, UL, UB]),
+        &[op::MOD, SL, UL, UB],
         &[(UL, 4294967289)],
         &[(SL, &[-7]), (UL, &[4294967289])],
         DONE,
     ),
     (
-        (Op::And, Cmp::Lt, &[UW, SL, UB]),
+        &[op::AND, UW, SL, UB],
         &[(SL, -1), (UB, 90)],
         &[(UW, &[90])],
         DONE,
     ),
     (
-        (Op::Or, Cmp::Lt, &[SL, UL, UB]),
+        &[op::OR, SL, UL, UB],
         &[(UL, 2147483648), (UB, 1)],
         &[(SL, &[-2147483647])],
         DONE,
     ),
     (
-        (Op::Xor, Cmp::Lt, &[UB, SB, UB]),
+        &[op::XOR, UB, SB, UB],
         &[(SB, -1), (UB, 15)],
         &[(UB, &[240])],
         DONE,
     ),
-    (
-        (Op::Neg, Cmp::Lt, &[SB, SB]),
-        &[(SB, -128)],
-        &[(SB, &[-128])],
-        DONE,
-    ),
-    (
-        (Op::Neg, Cmp::Lt, &[UW, UB]),
-        &[(UB, 1)],
-        &[(UW, &[65535])],
-        DONE,
-    ),
-    (
-        (Op::Not, Cmp::Lt, &[UB, SL]),
-        &[(UB, 9)],
-        &[(UB, &[1])],
-        DONE,
-    ),
-    (
-        (Op::Not, Cmp::Lt, &[SL, SL]),
-        &[(SL, -5)],
-        &[(SL, &[0])],
-        DONE,
-    ),
+    (&[op::NEG, SB, SB], &[(SB, -128)], &[(SB, &[-128])], DONE),
+    (&[op::NEG, UW, UB], &[(UB, 1)], &[(UW, &[65535])], DONE),
+    (&[op::NOT, UB, SL], &[(UB, 9)], &[(UB, &[1])], DONE),
+    (&[op::NOT, SL, SL], &[(SL, -5)], &[(SL, &[0])], DONE),
 ];
 
 #[test]
@@ -199,93 +172,73 @@ fn arithmetic_at_the_ends_of_the_kinds(rt: HostRuntime) -> Result<(), Fail> {
 
 static OTHERS: [Case<'static>; 17] = [
     (
-        (Op::Cmp, Cmp::Lt, &[UB, SL, UL]),
+        &[op::CMP, cmp::LT, UB, SL, UL],
         &[(SL, -1), (UL, 1)],
         &[(UB, &[1])],
         DONE,
     ),
     (
-        (Op::Cmp, Cmp::Lt, &[UB, UL, UW]),
+        &[op::CMP, cmp::LT, UB, UL, UW],
         &[(UL, 4294967295), (UW, 1), (UB, 7)],
         &[(UB, &[0])],
         DONE,
     ),
     (
-        (Op::Cmp, Cmp::Eq, &[UB, UL, SL]),
+        &[op::CMP, cmp::EQ, UB, UL, SL],
         &[(UL, 4294967295), (SL, -1)],
         &[(UB, &[1])],
         DONE,
     ),
     (
-        (Op::Tst, Cmp::Gt, &[UB, SL]),
+        &[op::TST, cmp::GT, UB, SL],
         &[(SL, -1), (UB, 7)],
         &[(UB, &[0])],
         DONE,
     ),
     (
-        (Op::Tst, Cmp::Gt, &[UB, UL]),
+        &[op::TST, cmp::GT, UB, UL],
         &[(UL, 4294967295)],
         &[(UB, &[1])],
         DONE,
     ),
     (
-        (Op::Mov, Cmp::Lt, &[SB, UL]),
+        &[op::MOV, SB, UL],
         &[(UL, 384)],
         &[(SB, &[-128]), (UL, &[384])],
         DONE,
     ),
     (
-        (Op::Mov, Cmp::Lt, &[UL, SB]),
+        &[op::MOV, UL, SB],
         &[(SB, -1)],
         &[(UL, &[4294967295])],
         DONE,
     ),
-    ((Op::Set, Cmp::Lt, &[SW, 0xFFFF]), &[], &[(SW, &[-1])], DONE),
+    (&[op::SET, SW, 0xFFFF], &[], &[(SW, &[-1])], DONE),
+    (&[op::SET, SL, 0xFFFF], &[], &[(SL, &[65535])], DONE),
+    (&[op::SET, UB, 0x1FE], &[], &[(UB, &[254])], DONE),
+    (&[op::JMP, 0xFFFD], &[], &[(UB, &[0])], Ok(Next::Jump(-3))),
+    (&[op::JMP, 0x7FFF], &[], &[], Ok(Next::Jump(32767))),
     (
-        (Op::Set, Cmp::Lt, &[SL, 0xFFFF]),
-        &[],
-        &[(SL, &[65535])],
-        DONE,
-    ),
-    ((Op::Set, Cmp::Lt, &[UB, 0x1FE]), &[], &[(UB, &[254])], DONE),
-    (
-        (Op::Jmp, Cmp::Lt, &[0xFFFD]),
-        &[],
-        &[(UB, &[0])],
-        Ok(Next::Jump(-3)),
-    ),
-    (
-        (Op::Jmp, Cmp::Lt, &[0x7FFF]),
-        &[],
-        &[],
-        Ok(Next::Jump(32767)),
-    ),
-    (
-        (Op::Brcmp, Cmp::Lt, &[0xFFFF, SB, UL]),
+        &[op::BRCMP, cmp::LT, 0xFFFF, SB, UL],
         &[(SB, -1)],
         &[(SB, &[-1])],
         Ok(Next::Jump(-1)),
     ),
     (
-        (Op::Brcmp, Cmp::Gteq, &[0xFFFF, SB, UL]),
+        &[op::BRCMP, cmp::GTEQ, 0xFFFF, SB, UL],
         &[(SB, -1)],
         &[],
         DONE,
     ),
     (
-        (Op::Brtst, Cmp::Neq, &[0x8000, SL]),
+        &[op::BRTST, cmp::NEQ, 0x8000, SL],
         &[(SL, -1)],
         &[(SL, &[-1])],
         Ok(Next::Jump(-32768)),
     ),
+    (&[op::BRTST, cmp::LT, 5, UL], &[(UL, 4294967295)], &[], DONE),
     (
-        (Op::Brtst, Cmp::Lt, &[5, UL]),
-        &[(UL, 4294967295)],
-        &[],
-        DONE,
-    ),
-    (
-        (Op::Brtst, Cmp::Lt, &[5, SL]),
+        &[op::BRTST, cmp::LT, 5, SL],
         &[(SL, -1)],
         &[],
         Ok(Next::Jump(5)),
@@ -300,19 +253,19 @@ fn comparisons_moves_and_jumps_of_numbers(rt: HostRuntime) -> Result<(), Fail> {
 static OF_LISTS: [Case<'static>; 8] = [
     // A list is combined place by place, up to the end of the shorter one.
     (
-        (Op::Add, Cmp::Lt, &[WORDS, WORDS, SB]),
+        &[op::ADD, WORDS, WORDS, SB],
         &[(SB, 1)],
         &[(WORDS, &[4, 0, 8, -32767, 6]), (BYTES, &[3, 1, 2, 250])],
         DONE,
     ),
     (
-        (Op::Sub, Cmp::Lt, &[BYTES, UB, BYTES]),
+        &[op::SUB, BYTES, UB, BYTES],
         &[(UB, 1)],
         &[(BYTES, &[3, 0, 255, 7]), (UB, &[1])],
         DONE,
     ),
     (
-        (Op::Add, Cmp::Lt, &[LONGS, BYTES, WORDS]),
+        &[op::ADD, LONGS, BYTES, WORDS],
         &[],
         &[
             (LONGS, &[3, 0, 9, -32518]),
@@ -322,31 +275,31 @@ static OF_LISTS: [Case<'static>; 8] = [
         DONE,
     ),
     (
-        (Op::Div, Cmp::Lt, &[BYTES, LONGS, BYTES]),
+        &[op::DIV, BYTES, LONGS, BYTES],
         &[],
         &[(BYTES, &[2, 254, 255]), (LONGS, &[2, -2, 2147483647])],
         DONE,
     ),
     (
-        (Op::Mul, Cmp::Lt, &[WORDS, HEAD, UL]),
+        &[op::MUL, WORDS, HEAD, UL],
         &[(UL, 4294967295)],
         &[(WORDS, &[2, -1, -2])],
         DONE,
     ),
     (
-        (Op::Mod, Cmp::Lt, &[HEAD, WORDS, UB]),
+        &[op::MOD, HEAD, WORDS, UB],
         &[],
         &[(HEAD, &[4, 65535, 7, 32768, 5])],
         DONE,
     ),
     (
-        (Op::Neg, Cmp::Lt, &[BYTES, BYTES]),
+        &[op::NEG, BYTES, BYTES],
         &[],
         &[(BYTES, &[3, 255, 254, 6])],
         DONE,
     ),
     (
-        (Op::Not, Cmp::Lt, &[BYTES, WORDS]),
+        &[op::NOT, BYTES, WORDS],
         &[],
         &[(BYTES, &[4, 0, 0, 0, 0])],
         DONE,
@@ -361,7 +314,7 @@ fn arithmetic_on_lists(rt: HostRuntime) -> Result<(), Fail> {
 static OTHERS_OF_LISTS: [Case<'static>; 14] = [
     // Of two lists the first places that differ decide, or else the lengths.
     (
-        (Op::Brcmp, Cmp::Lt, &[7, WORDS, LONGS]),
+        &[op::BRCMP, cmp::LT, 7, WORDS, LONGS],
         &[],
         &[
             (WORDS, &[4, -1, 7, -32768, 5]),
@@ -370,74 +323,74 @@ static OTHERS_OF_LISTS: [Case<'static>; 14] = [
         DONE,
     ),
     (
-        (Op::Brcmp, Cmp::Gt, &[7, WORDS, LONGS]),
+        &[op::BRCMP, cmp::GT, 7, WORDS, LONGS],
         &[],
         &[],
         Ok(Next::Jump(7)),
     ),
     (
-        (Op::Brcmp, Cmp::Eq, &[0xFFF8, BYTES, BYTES]),
+        &[op::BRCMP, cmp::EQ, 0xFFF8, BYTES, BYTES],
         &[],
         &[(BYTES, &[3, 1, 2, 250])],
         Ok(Next::Jump(-8)),
     ),
-    ((Op::Brcmp, Cmp::Lteq, &[8, BYTES, HEAD]), &[], &[], DONE),
+    (&[op::BRCMP, cmp::LTEQ, 8, BYTES, HEAD], &[], &[], DONE),
     (
-        (Op::Cmp, Cmp::Lt, &[UB, HEAD, BYTES]),
+        &[op::CMP, cmp::LT, UB, HEAD, BYTES],
         &[],
         &[(UB, &[1])],
         DONE,
     ),
     (
-        (Op::Cmp, Cmp::Gt, &[UB, LONGS, WORDS]),
+        &[op::CMP, cmp::GT, UB, LONGS, WORDS],
         &[(UB, 7)],
         &[(UB, &[0])],
         DONE,
     ),
     (
-        (Op::Cmp, Cmp::Lt, &[UB, WORDS, BYTES]),
+        &[op::CMP, cmp::LT, UB, WORDS, BYTES],
         &[],
         &[(UB, &[1])],
         DONE,
     ),
     (
-        (Op::Cmp, Cmp::Eq, &[SL, BYTES, HEAD]),
+        &[op::CMP, cmp::EQ, SL, BYTES, HEAD],
         &[(SL, 7)],
         &[(SL, &[0])],
         DONE,
     ),
     (
-        (Op::Cmp, Cmp::Lt, &[BYTES, HEAD, BYTES]),
+        &[op::CMP, cmp::LT, BYTES, HEAD, BYTES],
         &[],
         &[(BYTES, &[2, 0, 0])],
         DONE,
     ),
     (
-        (Op::Cmp, Cmp::Gt, &[BYTES, WORDS, SL]),
+        &[op::CMP, cmp::GT, BYTES, WORDS, SL],
         &[],
         &[(BYTES, &[4, 0, 1, 0, 1])],
         DONE,
     ),
     (
-        (Op::Tst, Cmp::Lt, &[LONGS, WORDS]),
+        &[op::TST, cmp::LT, LONGS, WORDS],
         &[],
         &[(LONGS, &[4, 1, 0, 1, 0])],
         DONE,
     ),
     (
-        (Op::Mov, Cmp::Lt, &[BYTES, WORDS]),
+        &[op::MOV, BYTES, WORDS],
         &[],
         &[(BYTES, &[4, 255, 7, 0, 5]), (WORDS, &[4, -1, 7, -32768, 5])],
         DONE,
     ),
     (
-        (Op::Mov, Cmp::Lt, &[LONGS, BYTES]),
+        &[op::MOV, LONGS, BYTES],
         &[],
         &[(LONGS, &[3, 1, 2, 250]), (HEAD, &[2, 1, 2])],
         DONE,
     ),
     (
-        (Op::Mov, Cmp::Lt, &[LONGS, LONGS]),
+        &[op::MOV, LONGS, LONGS],
         &[],
         &[(LONGS, &[2, -2, 2147483647]), (BYTES, &[3, 1, 2, 250])],
         DONE,

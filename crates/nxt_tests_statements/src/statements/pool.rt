@@ -3,10 +3,8 @@
 
 use super::lists::LEFT;
 use super::{Case, DONE, Story, check_all, check_cases};
-use nxt_images::{ARRAY, EMPTY, Image, NO_DEFAULT, SLONG, UBYTE, ULONG};
+use nxt_images::{ARRAY, EMPTY, Image, NO_DEFAULT, SLONG, UBYTE, ULONG, op};
 use nxt_space::OpFault;
-use nxt_types::instr::Op;
-use nxt_types::kind::Cmp;
 use std::test::Fail;
 
 /// A list of ubyte, [1, 2, 3].
@@ -24,7 +22,7 @@ const SL: u16 = 8;
 
 const UB: u16 = 9;
 
-const POOL: Image<'static> = Image {
+static POOL: Image<'static> = Image {
     entries: &[
         (ARRAY, 0, 0),
         (UBYTE, 0, 0),
@@ -49,56 +47,50 @@ static STORIES: [Story<'static>; 6] = [
     Story {
         before: &[(UL, 32712), (SL, 32711), (UB, 7)],
         steps: &[
-            ((Op::Arrinit, Cmp::Lt, &[LIST, UB, UL]), DONE),
+            (&[op::ARRINIT, LIST, UB, UL], DONE),
             (
-                (Op::Arrbuild, Cmp::Lt, &[LIST, LIST, UB]),
+                &[op::ARRBUILD, LIST, LIST, UB],
                 Err(OpFault::PoolPassed(32772)),
             ),
+            (&[op::ARRTOSTR, LIST, LIST], Err(OpFault::PoolPassed(32772))),
             (
-                (Op::Arrtostr, Cmp::Lt, &[LIST, LIST]),
-                Err(OpFault::PoolPassed(32772)),
-            ),
-            (
-                (Op::Strcat, Cmp::Lt, &[LIST, LIST, LIST]),
+                &[op::STRCAT, LIST, LIST, LIST],
                 Err(OpFault::PoolPassed(65484)),
             ),
             (
-                (Op::Arrbuild, Cmp::Lt, &[NESTED, LIST, LIST]),
+                &[op::ARRBUILD, NESTED, LIST, LIST],
                 Err(OpFault::PoolPassed(98216)),
             ),
             (
-                (Op::Numtostr, Cmp::Lt, &[NOTHING, UB]),
+                &[op::NUMTOSTR, NOTHING, UB],
+                Err(OpFault::PoolPassed(32772)),
+            ),
+            (&[op::FLATTEN, NOTHING, UB], Err(OpFault::PoolPassed(32772))),
+            (
+                &[op::STRSUBSET, NOTHING, LIST, SL, LEFT],
                 Err(OpFault::PoolPassed(32772)),
             ),
             (
-                (Op::Flatten, Cmp::Lt, &[NOTHING, UB]),
-                Err(OpFault::PoolPassed(32772)),
-            ),
-            (
-                (Op::Strsubset, Cmp::Lt, &[NOTHING, LIST, SL, LEFT]),
-                Err(OpFault::PoolPassed(32772)),
-            ),
-            (
-                (Op::Strtoarr, Cmp::Lt, &[NOTHING, LIST]),
+                &[op::STRTOARR, NOTHING, LIST],
                 Err(OpFault::PoolPassed(65480)),
             ),
             (
-                (Op::Replace, Cmp::Lt, &[NOTHING, LIST, SL, UB]),
+                &[op::REPLACE, NOTHING, LIST, SL, UB],
                 Err(OpFault::PoolPassed(65480)),
             ),
             (
-                (Op::Arrsubset, Cmp::Lt, &[NOTHING, LIST, SL, LEFT]),
+                &[op::ARRSUBSET, NOTHING, LIST, SL, LEFT],
                 Err(OpFault::PoolPassed(32772)),
             ),
             (
-                (Op::Arrinit, Cmp::Lt, &[NOTHING, UB, UB]),
+                &[op::ARRINIT, NOTHING, UB, UB],
                 Err(OpFault::PoolPassed(32776)),
             ),
-            ((Op::Arrsubset, Cmp::Lt, &[NOTHING, LIST, UL, LEFT]), DONE),
-            ((Op::Replace, Cmp::Lt, &[LIST, LIST, LEFT, SL]), DONE),
-            ((Op::Index, Cmp::Lt, &[UB, LIST, LEFT]), DONE),
-            ((Op::Index, Cmp::Lt, &[SL, LIST, SL]), DONE),
-            ((Op::Arrsize, Cmp::Lt, &[UL, LIST]), DONE),
+            (&[op::ARRSUBSET, NOTHING, LIST, UL, LEFT], DONE),
+            (&[op::REPLACE, LIST, LIST, LEFT, SL], DONE),
+            (&[op::INDEX, UB, LIST, LEFT], DONE),
+            (&[op::INDEX, SL, LIST, SL], DONE),
+            (&[op::ARRSIZE, UL, LIST], DONE),
         ],
         after: &[
             (UL, &[32712]),
@@ -111,7 +103,7 @@ static STORIES: [Story<'static>; 6] = [
     Story {
         before: &[(UL, 32713), (UB, 7)],
         steps: &[(
-            (Op::Arrinit, Cmp::Lt, &[LIST, UB, UL]),
+            &[op::ARRINIT, LIST, UB, UL],
             Err(OpFault::PoolPassed(32772)),
         )],
         after: &[(LIST, &[3, 1, 2, 3]), (UL, &[32713])],
@@ -121,15 +113,15 @@ static STORIES: [Story<'static>; 6] = [
         before: &[(SL, -1), (UL, 4294967295)],
         steps: &[
             (
-                (Op::Arrinit, Cmp::Lt, &[LIST, UB, SL]),
+                &[op::ARRINIT, LIST, UB, SL],
                 Err(OpFault::PoolPassed(4294967352)),
             ),
             (
-                (Op::Arrinit, Cmp::Lt, &[NESTED, LIST, SL]),
+                &[op::ARRINIT, NESTED, LIST, SL],
                 Err(OpFault::PoolPassed(68719476784)),
             ),
             (
-                (Op::Arrinit, Cmp::Lt, &[NESTED, NOTHING, UL]),
+                &[op::ARRINIT, NESTED, NOTHING, UL],
                 Err(OpFault::PoolPassed(51539607604)),
             ),
         ],
@@ -144,15 +136,12 @@ static STORIES: [Story<'static>; 6] = [
     Story {
         before: &[(UL, 2), (SL, 32692)],
         steps: &[
-            ((Op::Arrinit, Cmp::Lt, &[NESTED, LIST, UL]), DONE),
-            ((Op::Arrinit, Cmp::Lt, &[NESTED, LIST, UB]), DONE),
-            ((Op::Arrinit, Cmp::Lt, &[LIST, UL, SL]), DONE),
-            (
-                (Op::Arrtostr, Cmp::Lt, &[LIST, LIST]),
-                Err(OpFault::PoolPassed(32772)),
-            ),
-            ((Op::Arrsize, Cmp::Lt, &[UL, LIST]), DONE),
-            ((Op::Arrsize, Cmp::Lt, &[UB, LIST]), DONE),
+            (&[op::ARRINIT, NESTED, LIST, UL], DONE),
+            (&[op::ARRINIT, NESTED, LIST, UB], DONE),
+            (&[op::ARRINIT, LIST, UL, SL], DONE),
+            (&[op::ARRTOSTR, LIST, LIST], Err(OpFault::PoolPassed(32772))),
+            (&[op::ARRSIZE, UL, LIST], DONE),
+            (&[op::ARRSIZE, UB, LIST], DONE),
         ],
         after: &[(NESTED, &[0]), (UL, &[32692]), (UB, &[180])],
     },
@@ -160,10 +149,10 @@ static STORIES: [Story<'static>; 6] = [
     Story {
         before: &[(SL, 32696)],
         steps: &[
-            ((Op::Arrinit, Cmp::Lt, &[LIST, UB, SL]), DONE),
-            ((Op::Arrbuild, Cmp::Lt, &[NESTED, NOTHING]), DONE),
+            (&[op::ARRINIT, LIST, UB, SL], DONE),
+            (&[op::ARRBUILD, NESTED, NOTHING], DONE),
             (
-                (Op::Arrbuild, Cmp::Lt, &[NESTED, NESTED, NOTHING]),
+                &[op::ARRBUILD, NESTED, NESTED, NOTHING],
                 Err(OpFault::PoolPassed(32776)),
             ),
         ],
@@ -173,10 +162,10 @@ static STORIES: [Story<'static>; 6] = [
     Story {
         before: &[(UL, 16355), (UB, 7)],
         steps: &[
-            ((Op::Arrinit, Cmp::Lt, &[LIST, UB, UL]), DONE),
-            ((Op::Strcat, Cmp::Lt, &[LIST, LIST, LIST]), DONE),
-            ((Op::Arrsize, Cmp::Lt, &[UL, LIST]), DONE),
-            ((Op::Index, Cmp::Lt, &[UB, LIST, UL]), DONE),
+            (&[op::ARRINIT, LIST, UB, UL], DONE),
+            (&[op::STRCAT, LIST, LIST, LIST], DONE),
+            (&[op::ARRSIZE, UL, LIST], DONE),
+            (&[op::INDEX, UB, LIST, UL], DONE),
         ],
         after: &[(UL, &[32711]), (UB, &[0])],
     },
@@ -196,21 +185,15 @@ static SPACED_STORIES: [Story<'static>; 2] = [
     Story {
         before: &[(2, 6548)],
         steps: &[
-            ((Op::Arrinit, Cmp::Lt, &[0, 2, 2]), DONE),
-            (
-                (Op::Arrbuild, Cmp::Lt, &[0, 0, 2]),
-                Err(OpFault::PoolPassed(32776)),
-            ),
-            ((Op::Arrsize, Cmp::Lt, &[2, 0]), DONE),
+            (&[op::ARRINIT, 0, 2, 2], DONE),
+            (&[op::ARRBUILD, 0, 0, 2], Err(OpFault::PoolPassed(32776))),
+            (&[op::ARRSIZE, 2, 0], DONE),
         ],
         after: &[(2, &[6548])],
     },
     Story {
         before: &[(2, 6549)],
-        steps: &[(
-            (Op::Arrinit, Cmp::Lt, &[0, 2, 2]),
-            Err(OpFault::PoolPassed(32776)),
-        )],
+        steps: &[(&[op::ARRINIT, 0, 2, 2], Err(OpFault::PoolPassed(32776)))],
         after: &[(0, &[1, 1]), (2, &[6549])],
     },
 ];
@@ -223,7 +206,7 @@ fn a_growth_that_passes_the_pool_is_refused(rt: HostRuntime) -> Result<(), Fail>
 }
 
 /// A list of 20000 zeros of kind ubyte, and an empty one of slong.
-const LONG: Image<'static> = Image {
+static LONG: Image<'static> = Image {
     entries: &[(ARRAY, 0, 0), (UBYTE, 0, 0), (ARRAY, 0, 2), (SLONG, 0, 0)],
     static_size: 4,
     defaults: &[1, 0, 2, 0],
@@ -235,17 +218,12 @@ const LONG: Image<'static> = Image {
 // The list would take 80000 bytes, beside 4 static ones, a table of 32 and the other list.
 static MOVES: [Case<'static>; 2] = [
     (
-        (Op::Mov, Cmp::Lt, &[2, 0]),
+        &[op::MOV, 2, 0],
         &[],
         &[(2, &[0])],
         Err(OpFault::PoolPassed(100036)),
     ),
-    (
-        (Op::Mov, Cmp::Lt, &[0, 2]),
-        &[],
-        &[(0, &[0]), (2, &[0])],
-        DONE,
-    ),
+    (&[op::MOV, 0, 2], &[], &[(0, &[0]), (2, &[0])], DONE),
 ];
 
 #[test]
