@@ -13,7 +13,8 @@ use nxt_rows::get;
 const MOST_ROWS: usize = 6_553;
 
 /// Moves up to `k` of the lowest blocks that have a gap below down to the end of the block before, and gives the number of
-/// blocks that moved. The static bytes end at `base`.
+/// blocks that moved. The static bytes end at `base`. It sorts the blocks by their places; a heap settles its own by an index of
+/// their fronts, and calls this only to close all gaps, by `open_gap`.
 pub fn compact(pool: &mut [u8], table: &mut u32, base: u32, k: u16) -> u16
     requires { IsSound pool.old table.old base }
     ensures { Compacts base k pool.old pool.new table.old table.new result }

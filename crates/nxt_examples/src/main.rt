@@ -25,7 +25,7 @@ enum Command {
     AssembleAndRun,
 }
 
-static EXAMPLES: [(&str, Command); 54] = [
+static EXAMPLES: [(&str, Command); 64] = [
     ("motor", Command::Run),
     ("rising", Command::Run),
     ("average", Command::Run),
@@ -46,6 +46,11 @@ static EXAMPLES: [(&str, Command); 54] = [
     ("line_follower", Command::RunText),
     ("bumper", Command::RunText),
     ("route", Command::RunText),
+    ("drive", Command::RunText),
+    ("dark", Command::RunText),
+    ("brightest", Command::RunText),
+    ("there_and_back", Command::RunText),
+    ("answer", Command::RunText),
     ("motor", Command::Check),
     ("average", Command::Check),
     ("log", Command::Check),
@@ -80,21 +85,30 @@ static EXAMPLES: [(&str, Command); 54] = [
     ("line_follower", Command::AssembleAndRun),
     ("bumper", Command::AssembleAndRun),
     ("route", Command::AssembleAndRun),
+    ("drive", Command::AssembleAndRun),
+    ("dark", Command::AssembleAndRun),
+    ("brightest", Command::AssembleAndRun),
+    ("there_and_back", Command::AssembleAndRun),
+    ("answer", Command::AssembleAndRun),
 ];
 
-// The name of the file that holds what is due.
-fn due_name(alloc: Global, name: &str, command: Command) -> Result<String> {
+// What the name of the file ends with that holds what is due.
+fn due_ending(command: Command) -> &'static str {
     match command {
-        Command::Run | Command::RunText | Command::AssembleAndRun => Ok(format!(in alloc;
-            "{name}.report"
-        )?),
-        Command::Check => Ok(format!(in alloc; "{name}.check")?),
-        Command::List => Ok(format!(in alloc; "{name}.list")?),
-        Command::Assemble => Ok(format!(in alloc; "{name}.rxe")?),
+        Command::Run | Command::RunText | Command::AssembleAndRun => "report",
+        Command::Check => "check",
+        Command::List => "list",
+        Command::Assemble => "rxe",
     }
 }
 
-fn source_of(rt: &HostRuntime, path: String) -> Result<FileSource<HostRuntime>> {
+// The name of an example's file.
+fn file_name(alloc: Global, name: &str, ending: &str) -> Result<String> {
+    Ok(format!(in alloc; "{name}.{ending}")?)
+}
+
+fn source_of(rt: &HostRuntime, name: &str, ending: &str) -> Result<FileSource<HostRuntime>> {
+    let path = file_name(rt.alloc(), name, ending)?;
     Ok(FileSource::new(rt.clone()?, Some(path)))
 }
 
@@ -107,7 +121,7 @@ fn report_of(
 ) -> Result<Vec<u8>> {
     let alloc = rt.alloc();
     let words = words_of(alloc, words)?;
-    let mut script = source_of(rt, format!(in alloc; "{name}.csv")?)?;
+    let mut script = source_of(rt, name, "csv")?;
     let mut image = SureSink::new();
     let mut report = MemSink::new(alloc, 4096, Vec::new(alloc));
     nxt(
@@ -133,7 +147,7 @@ fn words_of(alloc: Global, texts: &[&str]) -> Result<Vec<Vec<u8>>> {
 fn image_of(rt: &HostRuntime, name: &str) -> Result<Vec<u8>> {
     let alloc = rt.alloc();
     let words = words_of(alloc, &["asm", "a", "b"])?;
-    let mut program = source_of(rt, format!(in alloc; "{name}.nbc")?)?;
+    let mut program = source_of(rt, name, "nbc")?;
     let mut script = SureSource::new(Vec::new(alloc));
     let mut image = MemSink::new(alloc, 4096, Vec::new(alloc));
     let mut report = SureSink::new();
@@ -150,11 +164,11 @@ fn image_of(rt: &HostRuntime, name: &str) -> Result<Vec<u8>> {
 
 // What the tool writes.
 fn written(rt: &HostRuntime, name: &str, command: Command) -> Result<Vec<u8>> {
-    let mut file = source_of(rt, format!(in rt.alloc(); "{name}.rxe")?)?;
+    let mut file = source_of(rt, name, "rxe")?;
     match command {
         Command::Run => report_of(rt, &["run", "rxe", "a", "b"], &mut file, name),
         Command::RunText => {
-            let mut text = source_of(rt, format!(in rt.alloc(); "{name}.nbc")?)?;
+            let mut text = source_of(rt, name, "nbc")?;
             report_of(rt, &["run", "nbc", "a", "b"], &mut text, name)
         }
         Command::Check => report_of(rt, &["check", "a"], &mut file, name),
@@ -169,7 +183,7 @@ fn written(rt: &HostRuntime, name: &str, command: Command) -> Result<Vec<u8>> {
 
 // Whether an example is as expected, which is printed.
 fn is_as_expected(rt: &HostRuntime, name: &str, command: Command) -> Result<bool> {
-    let due_name = due_name(rt.alloc(), name, command)?;
+    let due_name = file_name(rt.alloc(), name, due_ending(command))?;
     let due = fs::read(rt, due_name.as_str())?;
     let written = written(rt, name, command)?;
     if written.as_slice() == due.as_slice() {

@@ -5,7 +5,7 @@ use nxt_tool::{Status, nxt};
 use std::alloc::Global;
 use std::test::Fail;
 
-/// A text, by parts that are repeated so often.
+/// A text, by parts that are repeated.
 pub(crate) type Text<'a> = &'a [(&'a [u8], usize)];
 
 /// How a command ended, and what it wrote.

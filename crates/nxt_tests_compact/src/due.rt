@@ -59,7 +59,7 @@ pub(crate) fn settled(
     Ok((after, moved))
 }
 
-/// The blocks without gaps, and those that began above a block so many bytes higher.
+/// The blocks without gaps, and those that began above a block `more` bytes higher.
 pub(crate) fn slid(
     rt: &impl Abort,
     alloc: Global,

@@ -7,7 +7,7 @@ use std::alloc::Global;
 use std::process::Abort;
 use std::test::Fail;
 
-// So many lists one above the other from a place on, each of so many bytes. Every `nth` one has been freed.
+// Lists one above the other from a place on, all of one length. Every `nth` one has been freed.
 fn lists_from(
     alloc: Global,
     lists: u16,
@@ -28,7 +28,7 @@ fn lists_from(
     Ok(all)
 }
 
-// Compacts the pool by up to so many blocks, where so many move, and opens room at rows for so many bytes.
+// Compacts the pool, compares how many blocks move, and opens room at rows.
 fn check_all(
     rt: &impl Abort,
     alloc: Global,

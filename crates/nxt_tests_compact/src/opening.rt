@@ -10,7 +10,7 @@ use std::alloc::Global;
 use std::process::Abort;
 use std::test::Fail;
 
-/// Opens room for so many bytes at a row's place, and compares the pool with what is due.
+/// Opens room for `bytes` at a row's place, and compares the pool with what is due.
 pub(crate) fn check(
     rt: &impl Abort,
     alloc: Global,

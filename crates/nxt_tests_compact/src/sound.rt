@@ -82,7 +82,7 @@ pub(crate) fn is_sound(pool: &[u8], table: u32, base: u32) -> bool
     true
 }
 
-/// Whether the pool holds the blocks with so many bytes in the row's one.
+/// Whether the pool holds the blocks with `bytes` in the row's one.
 pub(crate) fn has_room(pool: &[u8], table: u32, base: u32, row: u16, bytes: u32) -> bool
     requires { IsSound pool.now table base }
     ensures { result ≡ true → HasRoom pool.now table base row bytes }

@@ -56,7 +56,7 @@ fn add_texts(lines: &[Line], into: &mut Bytes) -> Result<(), Fail> {
     Ok(())
 }
 
-// Runs so many bytecodes at most, and adds the texts of their lines.
+// Runs `most` bytecodes at most, and adds the texts of their lines.
 fn run_some(alloc: Global, machine: &mut Machine, most: u32, texts: &mut Bytes) -> Result<u32, Fail>
     ensures most { IfOk result (λ n. n ≤ most) }
     ensures some { 1 ≤ most → IfOk result (λ n. 1 ≤ n) }

@@ -63,7 +63,7 @@ fn accepted(alloc: Global, image: &Image) -> Result<Program, Fail> {
     Ok(Program { layout })
 }
 
-// A clump that starts at a word and has so many dependents.
+// A clump that starts at a word, by how many dependents it has.
 fn clump_of(alloc: Global, start: u16, dependents: u8) -> Result<ClumpRecs, Fail>
     ensures { IfOk result (λ clumps. clumps ≡ record { fire = 0; dependents = dependents; start = start } ∷ []) }
 {
@@ -84,7 +84,7 @@ fn bytes_of(alloc: Global, bytes: &[u8]) -> Result<Bytes, Fail>
     Ok(all)
 }
 
-// Why code of one clump is refused, which starts at a word and has so many dependents, these.
+// Why code of one clump is refused, which starts at a word and has these dependents.
 fn fault(
     alloc: Global,
     toc: &Toc,

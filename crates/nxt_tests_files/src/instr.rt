@@ -51,7 +51,7 @@ fn expect_spelled(rt: &impl Abort, spelled: &Spelled) {
     }
 }
 
-// A statement stands at a word, and is this one, of so many words.
+// A statement stands at a word, and is this one, of this length in words.
 fn expect_statement(rt: &impl Abort, words: &[u16], at: u32, due: Instr, length: u32) {
     match statement(words, at) {
         Some((instr, found)) => {

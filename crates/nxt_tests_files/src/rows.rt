@@ -28,7 +28,7 @@ static RECORDS: &[Entry] = &[
 /// start needs, or why the file is refused.
 type Case<'a> = (&'a [u8], &'a [Row], &'a [u8], Result<u32, LayoutFault>);
 
-// The bytes of the pool that the start of a file needs, with so many zeros behind its lists.
+// The bytes of the pool that the start of a file needs, with zeros behind its lists.
 fn start_of<'a>(
     alloc: Global,
     entries: &'a [Entry],

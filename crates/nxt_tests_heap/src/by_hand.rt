@@ -56,7 +56,7 @@ static LENGTHS: [(u16, u32); 10] = [
     (2, 10),
 ];
 
-// The lists of rows 1 to 4 have so many bytes, all of them marks.
+// The lists of rows 1 to 4 have these lengths, and all their bytes are marks.
 fn expect_lists(rt: &impl Abort, heap: &Heap, lengths: &[u32; 5]) {
     for row in 1..5 {
         let bytes = lengths[row] as usize;
@@ -140,7 +140,7 @@ fn add_marked(
     write_marks(rt, alloc, heap, row, bytes)
 }
 
-// A list that gets so many bytes, and the pool afterwards.
+// A row, the bytes that its list gets, and the pool afterwards.
 fn resize_to(
     rt: &impl Abort,
     alloc: Global,
@@ -152,7 +152,7 @@ fn resize_to(
     expect_pool(rt, alloc, heap, due)
 }
 
-// Up to so many blocks that settle, how many do, and the pool afterwards.
+// How many blocks may settle, how many do, and the pool afterwards.
 fn settle(
     rt: &impl Abort,
     alloc: Global,

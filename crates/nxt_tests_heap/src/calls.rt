@@ -93,7 +93,7 @@ fn mark(row: u16, at: usize) -> u8 {
     ((row as usize * 89 + at % 251) % 251 + 1) as u8
 }
 
-/// Fills a list of so many bytes with its marks.
+/// Fills a list of `bytes` with its marks.
 pub(crate) fn write_marks(
     rt: &impl Abort,
     alloc: Global,
@@ -106,7 +106,7 @@ pub(crate) fn write_marks(
     Ok(())
 }
 
-// The marks of a list of so many bytes.
+// The marks of a list of `bytes`.
 fn marks_of(alloc: Global, row: u16, bytes: u32) -> Result<Vec<u8>, Fail> {
     let mut marks = Vec::new(alloc);
     for at in 0..bytes as usize {
@@ -139,7 +139,7 @@ pub(crate) fn expect_list(rt: &impl Abort, heap: &Heap, row: u16, marks: usize, 
     }
 }
 
-// So many bytes are the marks of a row's list, and the others are zeros.
+// The first bytes of a row's list are its marks, and the others are zeros.
 fn expect_marks(rt: &impl Abort, found: &[u8], row: u16, marks: usize) {
     for (at, &byte) in found.iter().enumerate() {
         let due = if at < marks { mark(row, at) } else { 0 };

@@ -13,7 +13,7 @@ pub const NONE: u16 = 65_535;
 /// static bytes, and the table has just the rows that the lists need.
 pub type Case<'a> = (&'a str, &'a [u32], &'a [Step], &'a [u16]);
 
-/// A heap with lists of so many single bytes, one above the other.
+/// A heap with lists of these lengths, of single bytes, one above the other.
 pub(crate) fn filled(
     rt: &impl Abort,
     alloc: Global,
@@ -27,7 +27,7 @@ pub(crate) fn filled(
     Ok(trial)
 }
 
-// Adds lists of so many single bytes, which fill the rows from the first on.
+// Adds lists of these lengths, of single bytes, which fill the rows from the first on.
 fn fill(rt: &impl Abort, alloc: Global, trial: &mut Trial, lists: &[u32]) -> Result<(), Fail> {
     let mut row = 0;
     for &bytes in lists {

@@ -82,7 +82,7 @@ impl Due {
         false
     }
 
-    /// The footprint with so many bytes in a row's block.
+    /// The footprint with `bytes` in a row's block.
     pub(crate) fn footprint_with(&self, rt: &impl Abort, row: u16, bytes: u32) -> u64 {
         let others = self.footprint().saturating_sub(self.row(rt, row).block());
         others.saturating_add(round4(bytes as u64))

@@ -33,7 +33,7 @@ impl Due {
         Ok(moved)
     }
 
-    /// Gives a row's block so many bytes, which the pool holds.
+    /// Gives a row's block `bytes`, which the pool holds.
     pub(crate) fn resize(
         &mut self,
         rt: &impl Abort,
@@ -73,7 +73,7 @@ impl Due {
         next.saturating_sub(place)
     }
 
-    // The front of the lowest hole of so many bytes.
+    // The front of the lowest hole of `bytes`.
     fn hole(&self, rt: &impl Abort, alloc: Global, bytes: u64) -> Result<Option<u64>, Fail> {
         let mut end = self.base;
         for &(place, row) in self.in_order(alloc)?.as_slice() {
@@ -90,7 +90,7 @@ impl Due {
         }
     }
 
-    // Where a block of so many bytes goes that cannot stay: into the lowest hole. Where there is none no gap is left, and
+    // Where a block of `bytes` goes that cannot stay: into the lowest hole. Where there is none no gap is left, and
     // what stood above the block makes room for it.
     fn place_for(
         &mut self,

@@ -12,21 +12,21 @@ use std::test::Fail;
 /// What is done to a heap.
 #[derive(Clone, Copy, PartialEq, Eq, Debug)]
 pub enum Step {
-    /// A new list whose elements are so many bytes apart.
+    /// A new list, by how many bytes its elements are apart.
     New(u16),
     /// A new list, which the pool does not hold.
     Full,
-    /// The list of a row gets so many bytes.
+    /// The list of a row gets this length in bytes.
     Resize(u16, u32),
-    /// The newest list gets so many bytes.
+    /// The newest list gets this length.
     Fill(u32),
-    /// The list of a row is to get so many bytes, which the pool does not hold.
+    /// The list of a row is to get a length that the pool does not hold.
     Refused(u16, u32),
-    /// The newest list is to get so many bytes, which the pool does not hold.
+    /// The newest list is to get a length that the pool does not hold.
     RefusedNewest(u32),
     /// The list of a row goes.
     Free(u16),
-    /// Up to so many blocks settle.
+    /// Blocks settle, up to this number.
     Compact(u16),
     /// The block of a row is to stand at this place.
     At(u16, u64),
@@ -160,7 +160,7 @@ impl Trial {
         Ok(())
     }
 
-    // The pool does not hold so many bytes in a row's list.
+    // The pool does not hold `bytes` in a row's list.
     fn expect_refused(&mut self, rt: &impl Abort, row: u16, bytes: u32) {
         let footprint = self.due.footprint_with(rt, row, bytes);
         assert!(rt; footprint > POOL_BYTES, "step {}", self.steps);

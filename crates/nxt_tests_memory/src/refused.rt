@@ -138,7 +138,7 @@ fn run_one(alloc: Global, machine: &mut Machine, out: &mut Lines) -> Result<(), 
     Err("a bytecode never runs".into())
 }
 
-// Whether a line is the one that is due behind so many.
+// Whether a line is the one that is due behind those before it.
 fn is_due(told: usize, line: &Line) -> bool {
     match line {
         Line::Text(x, y, options, text) => {
@@ -150,7 +150,7 @@ fn is_due(told: usize, line: &Line) -> bool {
     }
 }
 
-// The lines of a step are those that are due behind so many; gives how many there are then.
+// The lines of a step are those that are due behind the ones before; gives how many there are then.
 fn expect_due(rt: &impl Abort, lines: &[Line], told: usize) -> usize {
     let mut told = told;
     for line in lines {
@@ -160,7 +160,7 @@ fn expect_due(rt: &impl Abort, lines: &[Line], told: usize) -> usize {
     told
 }
 
-// Runs a bytecode behind so many lines, and gives how many there are then.
+// Runs a bytecode behind these lines, and gives how many there are then.
 fn run_on(
     rt: &impl Abort,
     alloc: Global,

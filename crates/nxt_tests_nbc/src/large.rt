@@ -5,7 +5,7 @@ use std::alloc::Global;
 use std::process::Abort;
 use std::test::Fail;
 
-// So many lines, each by its number, between two others.
+// Lines, each by its number, between two others.
 fn lines(
     alloc: Global,
     first: &str,
@@ -23,7 +23,7 @@ fn lines(
     Ok(text)
 }
 
-// A text, so many copies of another, and a third.
+// A text, copies of another, and a third.
 fn repeated(
     alloc: Global,
     first: &str,

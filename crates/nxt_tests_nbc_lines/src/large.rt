@@ -30,7 +30,7 @@ static LARGE: [Case<'static>; 17] = [
     (b"a\n/*", b'*', b"\n/", "refused at line 2"),
 ];
 
-/// A text of so many bytes, filled between its ends.
+/// A text of `bytes`, filled between its ends.
 fn filled(alloc: Global, first: &[u8], byte: u8, last: &[u8]) -> Result<Vec<u8>, Fail> {
     let mut text = first.to_vec(alloc)?;
     for _ in first.len() + last.len()..TEXT_BYTES {

@@ -1,6 +1,8 @@
 // Forms as they are told in the tables of cases.
 
 use nxt_nbc_lines::{Form, Formed, Given, Names, Term, Terms, TypeName};
+use nxt_types::instr::Op;
+use nxt_types::kind::Cmp;
 use std::alloc::Global;
 use std::test::Fail;
 
@@ -50,43 +52,86 @@ fn given(alloc: Global, given: &Given<'_>) -> Result<String, Fail> {
     })
 }
 
-/// A form in words.
-fn form(alloc: Global, form: &Form<'_>) -> Result<String, Fail> {
-    Ok(match form {
-        Form::Include => format!(in alloc; "include")?,
-        Form::OpenData => format!(in alloc; "data")?,
-        Form::CloseData => format!(in alloc; "end of data")?,
-        Form::OpenStruct(name) => format!(in alloc; "struct {}", text(name))?,
-        Form::CloseStruct => format!(in alloc; "end of struct")?,
-        Form::Member(name, of) => format!(in alloc;
-            "member {}: {}",
-            text(name),
-            type_name(alloc, of)?
-        )?,
-        Form::Declare(name, of, start) => format!(in alloc;
-            "variable {}: {}, {}",
-            text(name),
-            type_name(alloc, of)?,
-            given(alloc, start)?
-        )?,
-        Form::OpenThread(name) => format!(in alloc; "thread {}", text(name))?,
-        Form::OpenSubroutine(name) => format!(in alloc; "subroutine {}", text(name))?,
-        Form::CloseBlock => format!(in alloc; "end of block")?,
-        Form::Precedes(list) => format!(in alloc; "precedes{}", terms(alloc, list)?)?,
-        Form::Follows(list) => format!(in alloc; "follows{}", terms(alloc, list)?)?,
-        Form::Exit => format!(in alloc; "exit")?,
-        Form::ExitTo(to) => format!(in alloc; "exit to {}", term(alloc, to)?)?,
-        Form::Return => format!(in alloc; "return")?,
-        Form::Call(of) => format!(in alloc; "call {}", term(alloc, of)?)?,
-        Form::Label(name) => format!(in alloc; "label {}", text(name))?,
-        Form::Do(label, op, cmp, list) => {
-            let label = match label {
-                Some(name) => format!(in alloc; "{}: ", text(name))?,
-                None => String::new(alloc),
-            };
-            format!(in alloc; "{label}{} {cmp:?}{}", op.name(), terms(alloc, list)?)?
+// A form that names nothing, by its word alone.
+fn word(form: &Form<'_>) -> Option<&'static str> {
+    match form {
+        Form::Include => Some("include"),
+        Form::OpenData => Some("data"),
+        Form::CloseData => Some("end of data"),
+        Form::CloseStruct => Some("end of struct"),
+        Form::CloseBlock => Some("end of block"),
+        Form::Exit => Some("exit"),
+        Form::Return => Some("return"),
+        _ => None,
+    }
+}
+
+// A form that names one thing, by its word, and the name.
+fn word_and_name<'a>(form: &Form<'a>) -> Option<(&'static str, &'a [u8])> {
+    match form {
+        Form::OpenStruct(name) => Some(("struct", *name)),
+        Form::OpenThread(name) => Some(("thread", *name)),
+        Form::OpenSubroutine(name) => Some(("subroutine", *name)),
+        Form::Label(name) => Some(("label", *name)),
+        _ => None,
+    }
+}
+
+fn named(alloc: Global, word: &str, name: &str) -> Result<String, Fail> {
+    Ok(format!(in alloc; "{word} {name}")?)
+}
+
+fn typed(alloc: Global, word: &str, name: &str, of: &str) -> Result<String, Fail> {
+    Ok(format!(in alloc; "{word} {name}: {of}")?)
+}
+
+fn statement(
+    alloc: Global,
+    label: Option<&[u8]>,
+    op: Op,
+    cmp: Cmp,
+    list: &Terms<'_>,
+) -> Result<String, Fail> {
+    let label = match label {
+        Some(name) => format!(in alloc; "{}: ", text(name))?,
+        None => String::new(alloc),
+    };
+    Ok(format!(in alloc; "{label}{} {cmp:?}{}", op.name(), terms(alloc, list)?)?)
+}
+
+// A form of several parts.
+fn parts(alloc: Global, form: &Form<'_>) -> Result<String, Fail> {
+    match form {
+        Form::Member(name, of) => {
+            typed(alloc, "member", text(name), type_name(alloc, of)?.as_str())
         }
-    })
+        Form::Declare(name, of, start) => {
+            let declared = typed(
+                alloc,
+                "variable",
+                text(name),
+                type_name(alloc, of)?.as_str(),
+            )?;
+            Ok(format!(in alloc; "{declared}, {}", given(alloc, start)?)?)
+        }
+        Form::Precedes(list) => Ok(format!(in alloc; "precedes{}", terms(alloc, list)?)?),
+        Form::Follows(list) => Ok(format!(in alloc; "follows{}", terms(alloc, list)?)?),
+        Form::ExitTo(to) => named(alloc, "exit to", term(alloc, to)?.as_str()),
+        Form::Call(of) => named(alloc, "call", term(alloc, of)?.as_str()),
+        Form::Do(label, op, cmp, list) => statement(alloc, *label, *op, *cmp, list),
+        _ => Ok(String::new(alloc)),
+    }
+}
+
+// A form in words.
+fn form(alloc: Global, form: &Form<'_>) -> Result<String, Fail> {
+    if let Some(word) = word(form) {
+        return Ok(format!(in alloc; "{word}")?);
+    }
+    match word_and_name(form) {
+        Some((word, name)) => named(alloc, word, text(name)),
+        None => parts(alloc, form),
+    }
 }
 
 /// Each form with its line, and the first bad line.

@@ -79,7 +79,7 @@ const NONE: Failing<'static> = Failing {
 /// The bytes that a call moves at most, where it moves all that there are.
 const WHOLE: usize = 4096;
 
-/// Runs a command over objects in memory, each of which moves so many bytes with a call.
+/// Runs a command over objects in memory, each of which moves `chunk` bytes with a call.
 fn command(
     alloc: Global,
     words: &[Vec<u8>],

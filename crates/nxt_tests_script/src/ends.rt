@@ -25,7 +25,7 @@ fn failing_sources(rt: HostRuntime) -> Result<(), Fail> {
     Ok(())
 }
 
-/// A row, empty lines, and another text at the end, so many bytes in all.
+/// A row, empty lines, and another text at the end, of this length in all.
 fn long_script(alloc: Global, bytes: usize, last: &[u8]) -> Result<Vec<u8>, Fail> {
     let mut script = b"run,1\n".to_vec(alloc)?;
     script.resize(bytes.saturating_sub(last.len()), b'\n')?;

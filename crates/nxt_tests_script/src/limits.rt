@@ -32,7 +32,7 @@ fn bytecodes(rt: HostRuntime) -> Result<(), Fail> {
     Ok(())
 }
 
-/// So many rows, each with an empty line behind it.
+/// Rows, each with an empty line behind it.
 fn ticks(alloc: Global, rows: usize) -> Result<Vec<u8>, Fail> {
     let mut script = Vec::new(alloc);
     for _ in 0..rows {
@@ -62,7 +62,7 @@ fn many_rows(rt: HostRuntime) -> Result<(), Fail> {
 /// The most dumps that a script may have.
 const MOST_DUMPS: usize = 256;
 
-/// So many dumps, and a row behind them.
+/// Dumps, and a row behind them.
 fn dumps(alloc: Global, count: usize) -> Result<Vec<u8>, Fail> {
     let mut script = Vec::new(alloc);
     for _ in 0..count {
@@ -89,7 +89,7 @@ fn many_dumps(rt: HostRuntime) -> Result<(), Fail> {
     Ok(())
 }
 
-/// A row of a telegram of so many bytes.
+/// A row of a telegram of this length.
 fn telegram(alloc: Global, bytes: usize) -> Result<Vec<u8>, Fail> {
     let mut row = b"telegram,".to_vec(alloc)?;
     for _ in 0..bytes {

@@ -6,8 +6,6 @@ use nxt_images::{
     file_of, op,
 };
 use nxt_tool::Status;
-use nxt_types::instr::Op;
-use nxt_types::kind::Cmp;
 use nxt_types::lists::Bytes;
 use nxt_types::words::LEFT_OUT;
 use std::alloc::Global;
@@ -340,8 +338,8 @@ fn stops(rt: HostRuntime) -> Result<(), Fail> {
     let zero: Source = (UBYTE, &[0]);
     let minus_one: Source = (SBYTE, &[0xFF]);
     for (x, operand) in [(minus_one, X), (zero, LEFT_OUT)] {
-        let operands = [operand];
-        let code = [(Op::Stop, Cmp::Lt, operands.as_slice()), SHOW, FINISH];
+        let stop = [op::STOP, operand];
+        let code = [stop.as_slice(), SHOW, FINISH];
         let entries = entries_of(x, zero, UBYTE);
         let defaults = defaults_of(alloc, x, zero)?;
         let program = program_of(alloc, &entries, defaults.as_slice(), &code)?;

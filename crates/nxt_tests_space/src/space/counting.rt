@@ -36,7 +36,7 @@ fn both(a: Size, b: Size) -> Option<Size>
     })
 }
 
-// With a list around, of so many elements.
+// With a list around, of `count` elements.
 fn around(inner: Size, count: u64, stride: u32) -> Option<Size>
     ensures { IfSome result (λ sum. sum ≡ record { lists = inner.lists + 1; bytes = rounded (count * stride) + inner.bytes }) }
 {

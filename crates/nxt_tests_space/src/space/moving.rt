@@ -169,7 +169,7 @@ enum Step {
     Compact(u16),
 }
 
-// After a compaction so many blocks fewer are unsettled.
+// After a compaction that many blocks fewer are unsettled.
 fn compact(rt: &impl Abort, space: &mut Space, k: u16)
     ensures { space.new.vars ≡ space.old.vars }
 {
@@ -205,7 +205,7 @@ fn take(
 
 // ---- a hundred inner lists
 
-// A list of so many lists without elements.
+// A list of lists without elements.
 fn lists_without_bytes(alloc: Global, count: u8) -> Result<Flat, Fail> {
     let mut flat = flat_of(alloc, &[i64::from(count)])?;
     for _ in 0..count {

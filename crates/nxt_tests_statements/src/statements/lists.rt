@@ -613,7 +613,7 @@ fn arrbuild_joins_values(rt: HostRuntime) -> Result<(), Fail> {
 }
 
 static ARRSUBSET: [Case<'static>; 18] = [
-    // Arrsubset: the rest from an index on, or so many elements of it.
+    // Arrsubset: the rest from an index on, or a number of its elements.
     (
         &[op::ARRSUBSET, NONE, BYTES, LEFT, LEFT],
         &[],
@@ -730,7 +730,7 @@ fn arrsubset_takes_a_part(rt: HostRuntime) -> Result<(), Fail> {
 }
 
 static ARRINIT: [Case<'static>; 9] = [
-    // Arrinit: so many copies.
+    // Arrinit: copies.
     (
         &[op::ARRINIT, BYTES, SL, UB],
         &[(SL, 300), (UB, 3)],
