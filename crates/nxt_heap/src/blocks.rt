@@ -36,78 +36,78 @@ pub struct BlockState {
 }
 
 /// The front of the lowest hole that holds these bytes.
-fn hole(pool: &[u8], fronts: &[u16], state: BlockState, bytes: u32) -> Option<u32>
-    requires blocks { AreBlocks pool.now fronts.now state }
+fn hole(pool: &[u8], fronts: &[u16], at: BlockState, bytes: u32) -> Option<u32>
+    requires blocks { AreBlocks pool.now fronts.now at }
     requires word { bytes % 4 ≡ 0 }
     requires some { 0 < bytes }
-    ensures some { IfSome result (IsFit pool.now state.table state.base bytes) }
-    ensures none { IfNone result ((p : ℕ) → state.base ≤ p → IsHole pool.now state.table p bytes → ⊥) }
+    ensures some { IfSome result (IsFit pool.now at.table at.base bytes) }
+    ensures none { IfNone result ((p : ℕ) → at.base ≤ p → IsHole pool.now at.table p bytes → ⊥) }
 {
-    let start = if state.end == state.footprint {
-        state.end
-    } else if bytes >= state.sought {
-        state.searched
+    let start = if at.end == at.footprint {
+        at.end
+    } else if bytes >= at.sought {
+        at.searched
     } else {
-        state.base
+        at.base
     };
-    first_fit(fronts, pool, state.table, start, bytes)
+    first_fit(fronts, pool, at.table, start, bytes)
 }
 
 /// Moves a row's block to a place where no other one has a byte.
-fn move_to(pool: &mut [u8], fronts: &mut [u16], state: &mut BlockState, row: u16, place: u32)
-    requires blocks { AreBlocks pool.old fronts.old state.old }
-    requires full { IsFull pool.old state.old.table row }
-    requires above { state.old.base ≤ place }
+fn move_to(pool: &mut [u8], fronts: &mut [u16], at: &mut BlockState, row: u16, place: u32)
+    requires blocks { AreBlocks pool.old fronts.old at.old }
+    requires full { IsFull pool.old at.old.table row }
+    requires above { at.old.base ≤ place }
     requires word { place % 4 ≡ 0 }
-    requires hole { IsOpenTo pool.old state.old.table row place (bytes_of_block (dope_row pool.old state.old.table row)) }
-    ensures { BlocksMove pool.old fronts.old pool.new fronts.new state.old state.new (moved_to (dope_row pool.old state.old.table row).place place) }
+    requires hole { IsOpenTo pool.old at.old.table row place (bytes_of_block (dope_row pool.old at.old.table row)) }
+    ensures { BlocksMove pool.old fronts.old pool.new fronts.new at.old at.new (moved_to (dope_row pool.old at.old.table row).place place) }
 {
-    let from = get(pool, state.table, row).place as u32;
+    let from = get(pool, at.table, row).place as u32;
     fronts[word(from)] = NO_ROW;
-    move_block(pool, &mut state.table, row, place);
+    move_block(pool, &mut at.table, row, place);
     fronts[word(place)] = row;
-    state.end = end_after(pool, fronts, *state, row, from);
-    state.searched = state.base;
+    at.end = end_after(pool, fronts, *at, row, from);
+    at.searched = at.base;
 }
 
 /// Where the last block ends once the block of a row has moved from a place.
-fn end_after(pool: &[u8], fronts: &[u16], state: BlockState, row: u16, from: u32) -> u32
-    requires pool { IsPool pool.now state.table state.base }
-    requires fronts { AreFronts pool.now state.table fronts.now }
-    requires moved { HasMoved pool.now state row from }
-    ensures { IsEnd pool.now state.table result }
+fn end_after(pool: &[u8], fronts: &[u16], at: BlockState, row: u16, from: u32) -> u32
+    requires pool { IsPool pool.now at.table at.base }
+    requires fronts { AreFronts pool.now at.table fronts.now }
+    requires moved { HasMoved pool.now at row from }
+    ensures { IsEnd pool.now at.table result }
 {
-    let found = get(pool, state.table, row);
+    let found = get(pool, at.table, row);
     let bytes = block_bytes(found) as u32;
     let end = found.place as u32 + bytes;
-    if end >= state.end {
+    if end >= at.end {
         end
-    } else if from + bytes == state.end {
-        last_end(fronts, pool, state.table, from)
+    } else if from + bytes == at.end {
+        last_end(fronts, pool, at.table, from)
     } else {
-        state.end
+        at.end
     }
 }
 
 /// Moves up to `k` of the lowest blocks that have a gap below down to the end of the block before, and gives the number of
 /// blocks that moved.
-pub fn settle(pool: &mut [u8], fronts: &mut [u16], state: &mut BlockState, k: u16) -> u16
-    requires { AreBlocks pool.old fronts.old state.old }
-    ensures moves { BlocksMove pool.old fronts.old pool.new fronts.new state.old state.new (place_after k state.old.base (blocks_in pool.old state.old.table)) }
-    ensures compacts { Compacts state.old.base k pool.old pool.new state.old.table state.new.table result }
+pub fn settle(pool: &mut [u8], fronts: &mut [u16], at: &mut BlockState, k: u16) -> u16
+    requires { AreBlocks pool.old fronts.old at.old }
+    ensures moves { BlocksMove pool.old fronts.old pool.new fronts.new at.old at.new (place_after k at.old.base (blocks_in pool.old at.old.table)) }
+    ensures compacts { Compacts at.old.base k pool.old pool.new at.old.table at.new.table result }
 {
-    if state.end == state.footprint {
+    if at.end == at.footprint {
         return 0;
     }
     let mut settled = 0;
-    let mut low = state.base;
+    let mut low = at.base;
     while settled < k {
-        let Some(row) = first_front(fronts, word(low), word(state.end)) else {
+        let Some(row) = first_front(fronts, word(low), word(at.end)) else {
             return settled;
         };
-        let found = get(pool, state.table, row);
+        let found = get(pool, at.table, row);
         if low < found.place as u32 {
-            move_to(pool, fronts, state, row, low);
+            move_to(pool, fronts, at, row, low);
             settled += 1;
         }
         low += block_bytes(found) as u32;
@@ -116,18 +116,18 @@ pub fn settle(pool: &mut [u8], fronts: &mut [u16], state: &mut BlockState, k: u1
 }
 
 /// Opens room for `bytes` in a row's block by moving other blocks, and gives the block's place.
-fn slide(pool: &mut [u8], fronts: &mut [u16], state: &mut BlockState, row: u16, bytes: u32) -> u32
-    requires blocks { AreBlocks pool.old fronts.old state.old }
-    requires may { MayHave pool.old state.old.table state.old.base row bytes }
-    requires full { IsFull pool.old state.old.table row }
-    requires longer { bytes_of_block (dope_row pool.old state.old.table row) < bytes }
-    ensures moves { BlocksMove pool.old fronts.old pool.new fronts.new state.old state.new (slid_in pool.old state.old.table state.old.base row (bytes - bytes_of_block (dope_row pool.old state.old.table row))) }
-    ensures room { IsRoom pool.new state.new.table state.new.base row result bytes }
+fn slide(pool: &mut [u8], fronts: &mut [u16], at: &mut BlockState, row: u16, bytes: u32) -> u32
+    requires blocks { AreBlocks pool.old fronts.old at.old }
+    requires may { MayHave pool.old at.old.table at.old.base row bytes }
+    requires full { IsFull pool.old at.old.table row }
+    requires longer { bytes_of_block (dope_row pool.old at.old.table row) < bytes }
+    ensures moves { BlocksMove pool.old fronts.old pool.new fronts.new at.old at.new (slid_in pool.old at.old.table at.old.base row (bytes - bytes_of_block (dope_row pool.old at.old.table row))) }
+    ensures room { IsRoom pool.new at.new.table at.new.base row result bytes }
 {
-    open_gap(pool, &mut state.table, state.base, row, bytes);
-    state.end = refresh(pool, fronts, state.table);
-    state.searched = state.base;
-    get(pool, state.table, row).place as u32
+    open_gap(pool, &mut at.table, at.base, row, bytes);
+    at.end = refresh(pool, fronts, at.table);
+    at.searched = at.base;
+    get(pool, at.table, row).place as u32
 }
 
 /// Notes anew where blocks begin, and gives the end of the last one.
@@ -147,25 +147,25 @@ fn refresh(pool: &[u8], fronts: &mut [u16], table: u32) -> u32
 pub fn make_room(
     pool: &mut [u8],
     fronts: &mut [u16],
-    state: &mut BlockState,
+    at: &mut BlockState,
     row: u16,
     bytes: u32,
 ) -> u32
-    requires blocks { AreBlocks pool.old fronts.old state.old }
-    requires may { MayHave pool.old state.old.table state.old.base row bytes }
-    ensures moves { (to : ℕ → ℕ) × BlocksMove pool.old fronts.old pool.new fronts.new state.old state.new to }
-    ensures room { IsRoom pool.new state.new.table state.new.base row result bytes }
-    ensures need { MakesRoom pool.old pool.new state.old state.new row bytes result }
+    requires blocks { AreBlocks pool.old fronts.old at.old }
+    requires may { MayHave pool.old at.old.table at.old.base row bytes }
+    ensures moves { (to : ℕ → ℕ) × BlocksMove pool.old fronts.old pool.new fronts.new at.old at.new to }
+    ensures room { IsRoom pool.new at.new.table at.new.base row result bytes }
+    ensures need { MakesRoom pool.old pool.new at.old at.new row bytes result }
 {
-    let found = get(pool, state.table, row);
+    let found = get(pool, at.table, row);
     let had = block_bytes(found) as u32;
     let place = found.place as u32;
     if had == 0 {
-        place_new(pool, fronts, state, row, bytes)
+        place_new(pool, fronts, at, row, bytes)
     } else if is_open(fronts, place + had, place + bytes) {
         place
     } else {
-        place_longer(pool, fronts, state, row, bytes)
+        place_longer(pool, fronts, at, row, bytes)
     }
 }
 
@@ -181,52 +181,46 @@ fn is_open(fronts: &[u16], from: u32, to: u32) -> bool
 fn place_longer(
     pool: &mut [u8],
     fronts: &mut [u16],
-    state: &mut BlockState,
+    at: &mut BlockState,
     row: u16,
     bytes: u32,
 ) -> u32
-    requires blocks { AreBlocks pool.old fronts.old state.old }
-    requires may { MayHave pool.old state.old.table state.old.base row bytes }
-    requires full { IsFull pool.old state.old.table row }
-    requires longer { bytes_of_block (dope_row pool.old state.old.table row) < bytes }
-    requires behind { holds_behind state.old.base (pool_at pool.old state.old) row bytes ≡ false }
-    ensures moves { (to : ℕ → ℕ) × BlocksMove pool.old fronts.old pool.new fronts.new state.old state.new to }
-    ensures room { IsRoom pool.new state.new.table state.new.base row result bytes }
-    ensures need { MakesRoom pool.old pool.new state.old state.new row bytes result }
+    requires blocks { AreBlocks pool.old fronts.old at.old }
+    requires may { MayHave pool.old at.old.table at.old.base row bytes }
+    requires full { IsFull pool.old at.old.table row }
+    requires longer { bytes_of_block (dope_row pool.old at.old.table row) < bytes }
+    requires behind { holds_behind at.old.base (pool_at pool.old at.old) row bytes ≡ false }
+    ensures moves { (to : ℕ → ℕ) × BlocksMove pool.old fronts.old pool.new fronts.new at.old at.new to }
+    ensures room { IsRoom pool.new at.new.table at.new.base row result bytes }
+    ensures need { MakesRoom pool.old pool.new at.old at.new row bytes result }
 {
-    match hole(pool, fronts, *state, bytes) {
+    match hole(pool, fronts, *at, bytes) {
         Some(place) => {
-            move_to(pool, fronts, state, row, place);
+            move_to(pool, fronts, at, row, place);
             place
         }
-        None => slide(pool, fronts, state, row, bytes),
+        None => slide(pool, fronts, at, row, bytes),
     }
 }
 
 /// Finds a hole for `bytes` of a row without a block, or closes all gaps, and gives the place.
-fn place_new(
-    pool: &mut [u8],
-    fronts: &mut [u16],
-    state: &mut BlockState,
-    row: u16,
-    bytes: u32,
-) -> u32
-    requires blocks { AreBlocks pool.old fronts.old state.old }
-    requires may { MayHave pool.old state.old.table state.old.base row bytes }
-    requires empty { bytes_of_block (dope_row pool.old state.old.table row) ≡ 0 }
-    ensures moves { (to : ℕ → ℕ) × BlocksMove pool.old fronts.old pool.new fronts.new state.old state.new to }
-    ensures room { IsRoom pool.new state.new.table state.new.base row result bytes }
-    ensures need { MakesRoom pool.old pool.new state.old state.new row bytes result }
+fn place_new(pool: &mut [u8], fronts: &mut [u16], at: &mut BlockState, row: u16, bytes: u32) -> u32
+    requires blocks { AreBlocks pool.old fronts.old at.old }
+    requires may { MayHave pool.old at.old.table at.old.base row bytes }
+    requires empty { bytes_of_block (dope_row pool.old at.old.table row) ≡ 0 }
+    ensures moves { (to : ℕ → ℕ) × BlocksMove pool.old fronts.old pool.new fronts.new at.old at.new to }
+    ensures room { IsRoom pool.new at.new.table at.new.base row result bytes }
+    ensures need { MakesRoom pool.old pool.new at.old at.new row bytes result }
 {
-    match hole(pool, fronts, *state, bytes) {
+    match hole(pool, fronts, *at, bytes) {
         Some(place) => {
-            state.searched = place;
-            state.sought = bytes;
+            at.searched = place;
+            at.sought = bytes;
             place
         }
         None => {
-            settle(pool, fronts, state, u16::MAX);
-            state.footprint
+            settle(pool, fronts, at, u16::MAX);
+            at.footprint
         }
     }
 }
@@ -235,30 +229,30 @@ fn place_new(
 fn set_length(
     pool: &mut [u8],
     fronts: &mut [u16],
-    state: &mut BlockState,
+    at: &mut BlockState,
     row: u16,
     place: u32,
     bytes: u32,
 )
-    requires blocks { AreBlocks pool.old fronts.old state.old }
-    requires list { IsListRow pool.old state.old.table row bytes }
+    requires blocks { AreBlocks pool.old fronts.old at.old }
+    requires list { IsListRow pool.old at.old.table row bytes }
     requires some { 0 < bytes }
-    requires room { IsRoom pool.old state.old.table state.old.base row place (rounded bytes) }
-    ensures length { HasLength pool.old pool.new fronts.new state.old state.new row bytes }
-    ensures row { Relists pool.old pool.new state.old.table row place (bytes / (dope_row pool.old state.old.table row).stride) (rounded bytes) }
-    ensures table { state.new.table ≡ state.old.table }
+    requires room { IsRoom pool.old at.old.table at.old.base row place (rounded bytes) }
+    ensures length { HasLength pool.old pool.new fronts.new at.old at.new row bytes }
+    ensures row { Relists pool.old pool.new at.old.table row place (bytes / (dope_row pool.old at.old.table row).stride) (rounded bytes) }
+    ensures table { at.new.table ≡ at.old.table }
 {
-    let block = block_bytes(get(pool, state.table, row)) as u32;
+    let block = block_bytes(get(pool, at.table, row)) as u32;
     let room = round4(bytes as u64) as u32;
-    write_length(pool, state.table, row, place, bytes);
+    write_length(pool, at.table, row, place, bytes);
     fronts[word(place)] = row;
-    state.end = if place + block == state.end {
+    at.end = if place + block == at.end {
         place + room
     } else {
-        state.end.max(place + room)
+        at.end.max(place + room)
     };
-    state.footprint = state.footprint + room - block;
-    state.searched = still_searched(*state, place);
+    at.footprint = at.footprint + room - block;
+    at.searched = still_searched(*at, place);
 }
 
 /// Writes the row of a list that has its `bytes` at a place, and zeros behind its front.
@@ -308,42 +302,42 @@ pub fn byte_count(row: DopeRow) -> u32
 }
 
 /// Gives a list no bytes.
-fn drop_bytes(pool: &mut [u8], fronts: &mut [u16], state: &mut BlockState, row: u16)
-    requires blocks { AreBlocks pool.old fronts.old state.old }
-    requires list { IsListRow pool.old state.old.table row 0 }
-    ensures length { HasLength pool.old pool.new fronts.new state.old state.new row 0 }
-    ensures row { Relists pool.old pool.new state.old.table row no_place 0 0 }
-    ensures table { state.new.table ≡ state.old.table }
+fn drop_bytes(pool: &mut [u8], fronts: &mut [u16], at: &mut BlockState, row: u16)
+    requires blocks { AreBlocks pool.old fronts.old at.old }
+    requires list { IsListRow pool.old at.old.table row 0 }
+    ensures length { HasLength pool.old pool.new fronts.new at.old at.new row 0 }
+    ensures row { Relists pool.old pool.new at.old.table row no_place 0 0 }
+    ensures table { at.new.table ≡ at.old.table }
 {
-    let found = get(pool, state.table, row);
+    let found = get(pool, at.table, row);
     let block = block_bytes(found) as u32;
-    write_none(pool, state.table, row);
+    write_none(pool, at.table, row);
     if block > 0 {
         let place = found.place as u32;
         fronts[word(place)] = NO_ROW;
-        state.end = if place + block == state.end {
-            end_below(pool, fronts, *state, place)
+        at.end = if place + block == at.end {
+            end_below(pool, fronts, *at, place)
         } else {
-            state.end
+            at.end
         };
-        state.footprint -= block;
-        state.searched = state.base;
+        at.footprint -= block;
+        at.searched = at.base;
     }
 }
 
 /// Where the last block ends that begins below the place at which the last of all blocks began.
-fn end_below(pool: &[u8], fronts: &[u16], state: BlockState, place: u32) -> u32
-    requires pool { IsPool pool.now state.table state.base }
-    requires fronts { AreFronts pool.now state.table fronts.now }
+fn end_below(pool: &[u8], fronts: &[u16], at: BlockState, place: u32) -> u32
+    requires pool { IsPool pool.now at.table at.base }
+    requires fronts { AreFronts pool.now at.table fronts.now }
     requires below { place ≤ pool_size }
-    requires most { (r : ℕ) → IsFull pool.now state.table r → (dope_row pool.now state.table r).place + bytes_of_block (dope_row pool.now state.table r) ≤ place }
-    requires packed { state.end ≡ state.footprint → place ≤ state.base + total (blocks_in pool.now state.table) }
-    ensures { IsEndBelow pool.now state.table place result }
+    requires most { (r : ℕ) → IsFull pool.now at.table r → (dope_row pool.now at.table r).place + bytes_of_block (dope_row pool.now at.table r) ≤ place }
+    requires packed { at.end ≡ at.footprint → place ≤ at.base + total (blocks_in pool.now at.table) }
+    ensures { IsEndBelow pool.now at.table place result }
 {
-    if state.end == state.footprint {
+    if at.end == at.footprint {
         place
     } else {
-        last_end(fronts, pool, state.table, place)
+        last_end(fronts, pool, at.table, place)
     }
 }
 
@@ -367,56 +361,50 @@ fn write_none(pool: &mut [u8], table: u32, row: u16)
 }
 
 /// Gives a list the length of `bytes`, a multiple of its stride. Its front stays, and new bytes are 0.
-pub fn resize_list(
-    pool: &mut [u8],
-    fronts: &mut [u16],
-    state: &mut BlockState,
-    row: u16,
-    bytes: u32,
-)
-    requires blocks { AreBlocks pool.old fronts.old state.old }
-    requires list { IsListRow pool.old state.old.table row bytes }
-    requires fits { state.old.footprint + rounded bytes ≤ pool_size + bytes_of_block (dope_row pool.old state.old.table row) }
-    ensures length { HasLength pool.old pool.new fronts.new state.old state.new row bytes }
-    ensures need { MovesAtNeed state.old.base (pool_at pool.old state.old) (pool_at pool.new state.new) row (rounded bytes) }
-    ensures shorter { rounded bytes ≤ bytes_of_block (dope_row pool.old state.old.table row) → NoneMoves (pool_at pool.old state.old) (pool_at pool.new state.new) }
+pub fn resize_list(pool: &mut [u8], fronts: &mut [u16], at: &mut BlockState, row: u16, bytes: u32)
+    requires blocks { AreBlocks pool.old fronts.old at.old }
+    requires list { IsListRow pool.old at.old.table row bytes }
+    requires fits { at.old.footprint + rounded bytes ≤ pool_size + bytes_of_block (dope_row pool.old at.old.table row) }
+    ensures length { HasLength pool.old pool.new fronts.new at.old at.new row bytes }
+    ensures need { MovesAtNeed at.old.base (pool_at pool.old at.old) (pool_at pool.new at.new) row (rounded bytes) }
+    ensures shorter { rounded bytes ≤ bytes_of_block (dope_row pool.old at.old.table row) → NoneMoves (pool_at pool.old at.old) (pool_at pool.new at.new) }
 {
     if bytes == 0 {
-        drop_bytes(pool, fronts, state, row);
+        drop_bytes(pool, fronts, at, row);
         return;
     }
     let room = round4(bytes as u64) as u32;
-    let place = make_room(pool, fronts, state, row, room);
-    set_length(pool, fronts, state, row, place, bytes);
+    let place = make_room(pool, fronts, at, row, room);
+    set_length(pool, fronts, at, row, place, bytes);
 }
 
 /// Frees a list and its row.
-pub fn free_list(pool: &mut [u8], fronts: &mut [u16], state: &mut BlockState, row: u16)
-    requires blocks { AreBlocks pool.old fronts.old state.old }
-    requires list { IsListRow pool.old state.old.table row 0 }
-    ensures { Frees pool.old pool.new fronts.new state.old state.new row }
+pub fn free_list(pool: &mut [u8], fronts: &mut [u16], at: &mut BlockState, row: u16)
+    requires blocks { AreBlocks pool.old fronts.old at.old }
+    requires list { IsListRow pool.old at.old.table row 0 }
+    ensures { Frees pool.old pool.new fronts.new at.old at.new row }
 {
-    drop_bytes(pool, fronts, state, row);
-    free_row(pool, state.table, row);
+    drop_bytes(pool, fronts, at, row);
+    free_row(pool, at.table, row);
 }
 
 /// Takes a free row for an empty list, or adds one to the table where the pool holds it.
 pub fn new_list(
     pool: &mut [u8],
     fronts: &mut [u16],
-    state: &mut BlockState,
+    at: &mut BlockState,
     stride: u16,
 ) -> Result<u16, PoolPassed>
-    requires blocks { AreBlocks pool.old fronts.old state.old }
+    requires blocks { AreBlocks pool.old fronts.old at.old }
     requires stride { 1 ≤ stride }
-    ensures ok { IfOk result (Takes pool.old pool.new fronts.new state.old state.new stride) }
-    ensures need { OnOk result (GrowsTable state.old.base (pool_at pool.old state.old) (pool_at pool.new state.new) (any_free (lists_in pool.old state.old.table)) (rounded (10 * (row_count pool.old state.old.table + 1)))) }
-    ensures passed { IfErr result (λ e. IsRefused pool.old state.old e.0) }
-    ensures err { OnErr result ((pool.new ≡ pool.old) × (fronts.new ≡ fronts.old) × (state.new ≡ state.old)) }
+    ensures ok { IfOk result (Takes pool.old pool.new fronts.new at.old at.new stride) }
+    ensures need { OnOk result (GrowsTable at.old.base (pool_at pool.old at.old) (pool_at pool.new at.new) (any_free (lists_in pool.old at.old.table)) (rounded (10 * (row_count pool.old at.old.table + 1)))) }
+    ensures passed { IfErr result (λ e. IsRefused pool.old at.old e.0) }
+    ensures err { OnErr result ((pool.new ≡ pool.old) × (fronts.new ≡ fronts.old) × (at.new ≡ at.old)) }
 {
-    match take_row(pool, state.table, stride) {
+    match take_row(pool, at.table, stride) {
         Some(row) => Ok(row),
-        None => add_list(pool, fronts, state, stride),
+        None => add_list(pool, fronts, at, stride),
     }
 }
 
@@ -424,60 +412,60 @@ pub fn new_list(
 fn add_list(
     pool: &mut [u8],
     fronts: &mut [u16],
-    state: &mut BlockState,
+    at: &mut BlockState,
     stride: u16,
 ) -> Result<u16, PoolPassed>
-    requires blocks { AreBlocks pool.old fronts.old state.old }
-    requires full { free_rows pool.old state.old.table ≡ [] }
+    requires blocks { AreBlocks pool.old fronts.old at.old }
+    requires full { free_rows pool.old at.old.table ≡ [] }
     requires stride { 1 ≤ stride }
-    ensures ok { IfOk result (Takes pool.old pool.new fronts.new state.old state.new stride) }
-    ensures need { OnOk result (MovesAtNeed state.old.base (pool_at pool.old state.old) (pool_at pool.new state.new) 0 (rounded (10 * (row_count pool.old state.old.table + 1)))) }
-    ensures passed { IfErr result (λ e. IsRefused pool.old state.old e.0) }
-    ensures err { OnErr result ((pool.new ≡ pool.old) × (fronts.new ≡ fronts.old) × (state.new ≡ state.old)) }
+    ensures ok { IfOk result (Takes pool.old pool.new fronts.new at.old at.new stride) }
+    ensures need { OnOk result (MovesAtNeed at.old.base (pool_at pool.old at.old) (pool_at pool.new at.new) 0 (rounded (10 * (row_count pool.old at.old.table + 1)))) }
+    ensures passed { IfErr result (λ e. IsRefused pool.old at.old e.0) }
+    ensures err { OnErr result ((pool.new ≡ pool.old) × (fronts.new ≡ fronts.old) × (at.new ≡ at.old)) }
 {
-    let row = get(pool, state.table, 0).count;
+    let row = get(pool, at.table, 0).count;
     let had = ROW_BYTES * row as u64;
     let room = round4(had + ROW_BYTES);
-    let footprint = state.footprint as u64 - round4(had) + room;
+    let footprint = at.footprint as u64 - round4(had) + room;
     if footprint > POOL_BYTES {
         return Err(PoolPassed(footprint));
     }
-    make_room(pool, fronts, state, 0, room as u32);
-    add_row(pool, fronts, state, stride);
+    make_room(pool, fronts, at, 0, room as u32);
+    add_row(pool, fronts, at, stride);
     Ok(row)
 }
 
 /// Adds a row with an empty list to a table that has room for it.
-fn add_row(pool: &mut [u8], fronts: &[u16], state: &mut BlockState, stride: u16)
-    requires blocks { AreBlocks pool.old fronts.now state.old }
-    requires full { free_rows pool.old state.old.table ≡ [] }
+fn add_row(pool: &mut [u8], fronts: &[u16], at: &mut BlockState, stride: u16)
+    requires blocks { AreBlocks pool.old fronts.now at.old }
+    requires full { free_rows pool.old at.old.table ≡ [] }
     requires stride { 1 ≤ stride }
-    requires room { IsRoom pool.old state.old.table state.old.base 0 state.old.table (rounded (10 * (row_count pool.old state.old.table + 1))) }
-    ensures added { HasRow pool.old pool.new fronts.now state.old state.new stride }
-    ensures rows { AddsRow pool.old pool.new state.old.table stride }
-    ensures table { state.new.table ≡ state.old.table }
+    requires room { IsRoom pool.old at.old.table at.old.base 0 at.old.table (rounded (10 * (row_count pool.old at.old.table + 1))) }
+    ensures added { HasRow pool.old pool.new fronts.now at.old at.new stride }
+    ensures rows { AddsRow pool.old pool.new at.old.table stride }
+    ensures table { at.new.table ≡ at.old.table }
 {
-    let rows = get(pool, state.table, 0).count;
+    let rows = get(pool, at.table, 0).count;
     let had = round4(ROW_BYTES * rows as u64) as u32;
     let room = round4(ROW_BYTES * (rows as u64 + 1)) as u32;
-    write_row(pool, state.table, stride);
-    state.end = if state.table + had == state.end {
-        state.table + room
+    write_row(pool, at.table, stride);
+    at.end = if at.table + had == at.end {
+        at.table + room
     } else {
-        state.end.max(state.table + room)
+        at.end.max(at.table + room)
     };
-    state.footprint = state.footprint + room - had;
-    state.searched = still_searched(*state, state.table);
+    at.footprint = at.footprint + room - had;
+    at.searched = still_searched(*at, at.table);
 }
 
 /// Up to where it stays known that no hole begins once a block has another size that stands at a place.
-fn still_searched(state: BlockState, place: u32) -> u32
-    ensures { (result ≡ state.base) ⊎ ((result ≡ state.searched) × (state.searched ≤ place)) }
+fn still_searched(at: BlockState, place: u32) -> u32
+    ensures { (result ≡ at.base) ⊎ ((result ≡ at.searched) × (at.searched ≤ place)) }
 {
-    if place < state.searched {
-        state.base
+    if place < at.searched {
+        at.base
     } else {
-        state.searched
+        at.searched
     }
 }
 

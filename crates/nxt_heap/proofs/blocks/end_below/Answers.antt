@@ -5,8 +5,8 @@ use Rattle.nxt_heap.proofs.blocks.end_below.Goals as goal
 
 pub last_end-requires-clause-some : goal.last_end-requires-clause-some
 last_end-requires-clause-some c =
-    let first = first_full c.args.pool.now c.args.state.table c.args.state.base c.requires.pool.sound in
+    let first = first_full c.args.pool.now c.args.at.table c.args.at.base c.requires.pool.sound in
     (0, first, omega (arith, c.requires.most 0 first, first.some))
 
 pub returns-then-at : goal.returns-then-at
-returns-then-at c = packed_end c.args.pool.now c.args.state.table c.args.state.base c.args.place c.requires.pool c.requires.most (c.requires.packed c.if-at.true)
+returns-then-at c = packed_end c.args.pool.now c.args.at.table c.args.at.base c.args.place c.requires.pool c.requires.most (c.requires.packed c.if-at.true)

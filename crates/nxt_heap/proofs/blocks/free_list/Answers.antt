@@ -26,23 +26,23 @@ bare old new table base row t p l r same =
     }
 
 pub free_row-requires-clause-table : goal.free_row-requires-clause-table
-free_row-requires-clause-table c = pool_table c.drop_bytes.new.pool c.drop_bytes.new.state.table c.drop_bytes.new.state.base c.drop_bytes.ensures.length.blocks.is_pool
+free_row-requires-clause-table c = pool_table c.drop_bytes.new.pool c.drop_bytes.new.at.table c.drop_bytes.new.at.base c.drop_bytes.ensures.length.blocks.is_pool
 
 pub free_row-requires-clause-alive : goal.free_row-requires-clause-alive
 free_row-requires-clause-alive c =
     let d = c.drop_bytes.ensures in
-    let f = bare c.args.pool.now c.drop_bytes.new.pool c.args.state.now.table c.args.state.now.base c.args.row c.drop_bytes.new.state.table c.requires.blocks.is_pool c.requires.list d.row d.table in
-    pool_alive c.drop_bytes.new.pool c.drop_bytes.new.state.table c.drop_bytes.new.state.base c.args.row d.length.blocks.is_pool c.requires.list.above f.within f.alive
+    let f = bare c.args.pool.now c.drop_bytes.new.pool c.args.at.now.table c.args.at.now.base c.args.row c.drop_bytes.new.at.table c.requires.blocks.is_pool c.requires.list d.row d.table in
+    pool_alive c.drop_bytes.new.pool c.drop_bytes.new.at.table c.drop_bytes.new.at.base c.args.row d.length.blocks.is_pool c.requires.list.above f.within f.alive
 
-swaps : (c : goal.After-slice_known-5-1) → Swaps c.drop_bytes.new.pool c.free_row.new.pool c.drop_bytes.new.state.table c.args.row
+swaps : (c : goal.After-slice_known-5-1) → Swaps c.drop_bytes.new.pool c.free_row.new.pool c.drop_bytes.new.at.table c.args.row
 swaps c =
     let d = c.drop_bytes.ensures in
-    let f = bare c.args.pool.now c.drop_bytes.new.pool c.args.state.now.table c.args.state.now.base c.args.row c.drop_bytes.new.state.table c.requires.blocks.is_pool c.requires.list d.row d.table in
+    let f = bare c.args.pool.now c.drop_bytes.new.pool c.args.at.now.table c.args.at.now.base c.args.row c.drop_bytes.new.at.table c.requires.blocks.is_pool c.requires.list d.row d.table in
     record {
       size = c.free_row.auto.pool;
       above = c.requires.list.above;
       within = f.within;
-      no_bytes = row_bytes-none (dope_row c.drop_bytes.new.pool c.drop_bytes.new.state.table c.args.row) f.count;
+      no_bytes = row_bytes-none (dope_row c.drop_bytes.new.pool c.drop_bytes.new.at.table c.args.row) f.count;
       count = ap (λ r. r.count) c.free_row.ensures.row;
       place = ap (λ r. r.place) c.free_row.ensures.row;
       back = ap (λ r. r.back) c.free_row.ensures.row;
@@ -50,7 +50,7 @@ swaps c =
       outside = c.free_row.ensures.outside;
       chain = c.free_row.ensures.chain;
       free = λ q above below.
-          freed_free c.drop_bytes.new.pool c.free_row.new.pool c.drop_bytes.new.state.table c.drop_bytes.new.state.base c.args.row q d.length.blocks.is_pool
+          freed_free c.drop_bytes.new.pool c.free_row.new.pool c.drop_bytes.new.at.table c.drop_bytes.new.at.base c.args.row q d.length.blocks.is_pool
           c.free_row.ensures.front (ap (λ r. r.stride) c.free_row.ensures.row)
           (λ other. ap (λ r. r.stride) (c.free_row.ensures.others.others q (λ e. omega (arith, e, above)) other)) above below;
     }
@@ -60,21 +60,21 @@ returns c =
     let d = c.drop_bytes.ensures in
     let b = d.length.blocks in
     let s = swaps c in
-    let first = first_full c.drop_bytes.new.pool c.drop_bytes.new.state.table c.drop_bytes.new.state.base b.is_pool.sound in
+    let first = first_full c.drop_bytes.new.pool c.drop_bytes.new.at.table c.drop_bytes.new.at.base b.is_pool.sound in
     record {
-      blocks = swapped_blocks c.drop_bytes.new.pool c.free_row.new.pool c.drop_bytes.new.fronts c.drop_bytes.new.state c.args.row b s;
+      blocks = swapped_blocks c.drop_bytes.new.pool c.free_row.new.pool c.drop_bytes.new.fronts c.drop_bytes.new.at c.args.row b s;
       base = d.length.base;
-      lists = swapped_lists c.drop_bytes.new.pool c.free_row.new.pool c.drop_bytes.new.state.table c.drop_bytes.new.state.base c.args.row b.is_pool s None
-          (list_in-none c.free_row.new.pool c.drop_bytes.new.state.table c.args.row (ap (λ r. r.stride) c.free_row.ensures.row))
+      lists = swapped_lists c.drop_bytes.new.pool c.free_row.new.pool c.drop_bytes.new.at.table c.drop_bytes.new.at.base c.args.row b.is_pool s None
+          (list_in-none c.free_row.new.pool c.drop_bytes.new.at.table c.args.row (ap (λ r. r.stride) c.free_row.ensures.row))
           ∙ ap (λ xs. set xs c.args.row None) d.length.lists
-          ∙ set-set (lists_in c.args.pool.now c.args.state.now.table) c.args.row _ None;
+          ∙ set-set (lists_in c.args.pool.now c.args.at.now.table) c.args.row _ None;
       below = λ k low. s.outside.below k 0 (omega (arith, low, d.length.base, b.is_pool.sound.above 0 first, b.is_pool.sound.place)) ∙ d.length.below k low;
       stay = λ q full other.
           let place = ap (λ r. r.place) (d.row.others q full.within other) in
-          let there : IsFull c.drop_bytes.new.pool c.args.state.now.table q = record {
-            within = omega (arith, full.within, count_kept c.args.pool.now c.drop_bytes.new.pool c.args.state.now.table c.args.state.now.base c.args.row no_place 0 0 c.requires.blocks.is_pool c.requires.list.above c.requires.list.within c.requires.list.alive d.row);
+          let there : IsFull c.drop_bytes.new.pool c.args.at.now.table q = record {
+            within = omega (arith, full.within, count_kept c.args.pool.now c.drop_bytes.new.pool c.args.at.now.table c.args.at.now.base c.args.row no_place 0 0 c.requires.blocks.is_pool c.requires.list.above c.requires.list.within c.requires.list.alive d.row);
             some = omega (arith, full.some, ap block_bytes (d.row.others q full.within other));
           } in
-          stands c.drop_bytes.new.pool c.free_row.new.pool c.drop_bytes.new.state.table c.drop_bytes.new.state.base c.args.row b.is_pool s q (rw d.table there)
+          stands c.drop_bytes.new.pool c.free_row.new.pool c.drop_bytes.new.at.table c.drop_bytes.new.at.base c.args.row b.is_pool s q (rw d.table there)
           ∙ ap (λ t. (dope_row c.drop_bytes.new.pool t q).place) d.table ∙ place;
     }

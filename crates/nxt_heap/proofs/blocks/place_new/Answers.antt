@@ -16,29 +16,29 @@ returns-in-Some-clause-moves c =
           are_fronts = b.are_fronts;
           end_is = b.end_is;
           footprint_is = b.footprint_is;
-          searched = searched_found c.args.pool.now c.args.state.now.table c.args.state.now.base c.args.bytes c.in-Some.place b.is_pool c.requires.may.some c.in-Some.ensures.some;
+          searched = searched_found c.args.pool.now c.args.at.now.table c.args.at.now.base c.args.bytes c.in-Some.place b.is_pool c.requires.may.some c.in-Some.ensures.some;
         };
-        moves = no_moves c.args.state.now.base c.args.pool.now c.args.state.now.table;
+        moves = no_moves c.args.at.now.base c.args.pool.now c.args.at.now.table;
         base = refl;
         footprint = refl;
       },
     )
 
 pub returns-in-Some-clause-room : goal.returns-in-Some-clause-room
-returns-in-Some-clause-room c = hole_room c.args.pool.now c.args.state.now.table c.args.state.now.base c.args.row c.args.bytes c.in-Some.place c.requires.empty c.in-Some.ensures.some
+returns-in-Some-clause-room c = hole_room c.args.pool.now c.args.at.now.table c.args.at.now.base c.args.row c.args.bytes c.in-Some.place c.requires.empty c.in-Some.ensures.some
 
 pub returns-in-None-clause-room : goal.returns-in-None-clause-room
 returns-in-None-clause-room c =
     let b = c.requires.blocks in
     let s = c.settle.ensures in
     rw (s.moves.base, s.moves.footprint, b.footprint_is)
-    (top_room c.args.pool.now c.settle.new.pool c.args.state.now.table c.settle.new.state.table c.args.state.now.base c.args.row c.args.bytes c.settle.result b.is_pool b.word c.requires.may c.requires.empty s.compacts)
+    (top_room c.args.pool.now c.settle.new.pool c.args.at.now.table c.settle.new.at.table c.args.at.now.base c.args.row c.args.bytes c.settle.result b.is_pool b.word c.requires.may c.requires.empty s.compacts)
 
 pub returns-in-Some-clause-need : goal.returns-in-Some-clause-need
 returns-in-Some-clause-need c =
-    let n = takes_hole c.args.pool.now c.args.state.now c.args.row c.args.bytes c.in-Some.place c.requires.blocks.is_pool c.requires.may.within c.requires.empty c.in-Some.ensures.some in
+    let n = takes_hole c.args.pool.now c.args.at.now c.args.row c.args.bytes c.in-Some.place c.requires.blocks.is_pool c.requires.may.within c.requires.empty c.in-Some.ensures.some in
     record { behind = n.behind; hole = n.hole; order = n.order }
 
 pub returns-in-None-clause-need : goal.returns-in-None-clause-need
 returns-in-None-clause-need c =
-    settles c.args.pool.now c.settle.new.pool c.args.state.now c.settle.new.state c.args.row c.args.bytes c.settle.new.state.footprint c.settle.result c.requires.blocks.is_pool c.requires.may.within c.requires.empty c.in-None.ensures.none c.settle.ensures.compacts
+    settles c.args.pool.now c.settle.new.pool c.args.at.now c.settle.new.at c.args.row c.args.bytes c.settle.new.at.footprint c.settle.result c.requires.blocks.is_pool c.requires.may.within c.requires.empty c.in-None.ensures.none c.settle.ensures.compacts

@@ -21,9 +21,9 @@ returns-clause-lists c =
     let p = c.self.inside.state in
     let n = c.self.inside.static_size in
     let items = with_items_is c.self.inside.pool c.free_list.new.pool (c.free_list.auto.pool ∙ c.deref_mut.ensures.len) in
-    let f : Frees pool c.free_list.new.pool c.free_list.new.fronts p c.free_list.new.state c.args.row = rw c.deref_mut.ensures.value at c.free_list.ensures in
+    let f : Frees pool c.free_list.new.pool c.free_list.new.fronts p c.free_list.new.at c.args.row = rw c.deref_mut.ensures.value at c.free_list.ensures in
     rw items
-    (after_free n pool c.free_list.new.pool fronts c.free_list.new.fronts p c.free_list.new.state c.args.row c.self.invariant f
+    (after_free n pool c.free_list.new.pool fronts c.free_list.new.fronts p c.free_list.new.at c.args.row c.self.invariant f
     ∙ ap (λ h. with_list h.lists c.args.row None) c.self.view_is)
 
 pub returns-clause-stay : goal.returns-clause-stay
@@ -33,5 +33,5 @@ returns-clause-stay c =
     let p = c.self.inside.state in
     let n = c.self.inside.static_size in
     let items = with_items_is c.self.inside.pool c.free_list.new.pool (c.free_list.auto.pool ∙ c.deref_mut.ensures.len) in
-    let f : Frees pool c.free_list.new.pool c.free_list.new.fronts p c.free_list.new.state c.args.row = rw c.deref_mut.ensures.value at c.free_list.ensures in
-    rw items (subst (λ h. OthersStay h.pool (record { bytes = c.free_list.new.pool; table = c.free_list.new.state.table }) c.args.row) c.self.view_is f.stay)
+    let f : Frees pool c.free_list.new.pool c.free_list.new.fronts p c.free_list.new.at c.args.row = rw c.deref_mut.ensures.value at c.free_list.ensures in
+    rw items (subst (λ h. OthersStay h.pool (record { bytes = c.free_list.new.pool; table = c.free_list.new.at.table }) c.args.row) c.self.view_is f.stay)

@@ -7,16 +7,16 @@ use Rattle.nxt_heap.proofs.heap.Heap.new.Goals as goal
 
 pub invariant_of-result : goal.invariant_of-result
 invariant_of-result c =
-    let pool = with_items_is c.in_ok-pool.pool c.lay_out-places.new.pool (c.lay_out-places.auto.pool ∙ c.deref_mut.ensures.len) in
-    let fronts = with_items_is c.in_ok-fronts.fronts c.lay_out-places.new.fronts (c.lay_out-places.auto.fronts ∙ c.deref_mut-2.ensures.len) in
-    rw (pool, fronts) (record { blocks = c.lay_out-places.ensures.blocks; base_is = c.lay_out-places.ensures.base ∙ c.round4-base.ensures })
+    let pool = with_items_is c.in_ok-pool.pool c.lay_out-state.new.pool (c.lay_out-state.auto.pool ∙ c.deref_mut.ensures.len) in
+    let fronts = with_items_is c.in_ok-fronts.fronts c.lay_out-state.new.fronts (c.lay_out-state.auto.fronts ∙ c.deref_mut-2.ensures.len) in
+    rw (pool, fronts) (record { blocks = c.lay_out-state.ensures.blocks; base_is = c.lay_out-state.ensures.base ∙ c.round4-base.ensures })
 
 pub returns : goal.returns
 returns c =
-    let pool = with_items_is c.in_ok-pool.pool c.lay_out-places.new.pool (c.lay_out-places.auto.pool ∙ c.deref_mut.ensures.len) in
+    let pool = with_items_is c.in_ok-pool.pool c.lay_out-state.new.pool (c.lay_out-state.auto.pool ∙ c.deref_mut.ensures.len) in
     let n = c.args.static_size in
-    let size = c.lay_out-places.ensures.blocks.is_pool.size in
-    let static : take n c.lay_out-places.new.pool ≡ replicate n 0 =
-    take-zeros c.lay_out-places.new.pool n (omega (arith, size, c.requires.fits, le-round4 n))
-    (λ k below. c.lay_out-places.ensures.zeros k (omega (arith, below, c.round4-base.ensures, le-round4 n))) in
-    rw (pool, static, c.lay_out-places.ensures.lists) refl
+    let size = c.lay_out-state.ensures.blocks.is_pool.size in
+    let static : take n c.lay_out-state.new.pool ≡ replicate n 0 =
+    take-zeros c.lay_out-state.new.pool n (omega (arith, size, c.requires.fits, le-round4 n))
+    (λ k below. c.lay_out-state.ensures.zeros k (omega (arith, below, c.round4-base.ensures, le-round4 n))) in
+    rw (pool, static, c.lay_out-state.ensures.lists) refl

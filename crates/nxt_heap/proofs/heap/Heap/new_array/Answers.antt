@@ -18,12 +18,12 @@ use Rattle.nxt_heap.proofs.ListsKept.{length-lists_in}
 use Rattle.nxt_heap.proofs.Seen.{length_static}
 use Rattle.nxt_heap.proofs.heap.Heap.new_array.Goals as goal
 
-takes : (c : goal.After-self-2-1) → IfOk c.new_list.result (Takes c.self.inside.pool.items c.new_list.new.pool c.new_list.new.fronts c.self.inside.state c.new_list.new.state c.args.stride)
+takes : (c : goal.After-self-2-1) → IfOk c.new_list.result (Takes c.self.inside.pool.items c.new_list.new.pool c.new_list.new.fronts c.self.inside.state c.new_list.new.at c.args.stride)
 takes c = rw c.deref_mut.ensures.value at c.new_list.ensures.ok
 
 pub returns-clause-free : goal.returns-clause-free
 returns-clause-free c =
-    IfOk-weaker c.new_list.result (Takes c.self.inside.pool.items c.new_list.new.pool c.new_list.new.fronts c.self.inside.state c.new_list.new.state c.args.stride) (λ row. IsFree (with_free c.args.self.now.lists.by_row) row)
+    IfOk-weaker c.new_list.result (Takes c.self.inside.pool.items c.new_list.new.pool c.new_list.new.fronts c.self.inside.state c.new_list.new.at c.args.stride) (λ row. IsFree (with_free c.args.self.now.lists.by_row) row)
     (λ row t. rw (← c.self.view_is) t.free) (takes c)
 
 pub returns-clause-ok : goal.returns-clause-ok
@@ -34,9 +34,9 @@ returns-clause-ok c =
     let n = c.self.inside.static_size in
     let items = with_items_is c.self.inside.pool c.new_list.new.pool (c.new_list.auto.pool ∙ c.deref_mut.ensures.len) in
     rw items
-    (IfOk-weaker c.new_list.result (Takes pool c.new_list.new.pool c.new_list.new.fronts p c.new_list.new.state c.args.stride) (λ row. shown n c.new_list.new.pool c.new_list.new.state ≡ with_list (with_free_row c.args.self.now.lists) row (empty_list c.args.stride))
+    (IfOk-weaker c.new_list.result (Takes pool c.new_list.new.pool c.new_list.new.fronts p c.new_list.new.at c.args.stride) (λ row. shown n c.new_list.new.pool c.new_list.new.at ≡ with_list (with_free_row c.args.self.now.lists) row (empty_list c.args.stride))
     (λ row t.
-    after_taken n pool c.new_list.new.pool fronts c.new_list.new.fronts p c.new_list.new.state c.args.stride row c.self.invariant t
+    after_taken n pool c.new_list.new.pool fronts c.new_list.new.fronts p c.new_list.new.at c.args.stride row c.self.invariant t
     ∙ ap (λ h. with_list (with_free_row h.lists) row (empty_list c.args.stride)) c.self.view_is) (takes c))
 
 on_ok : (r : Result ℕ PoolPassed) (P : ℕ → Type 0) (Q : Type 0) → ((row : ℕ) → P row → Q) → IfOk r P → OnOk r Q
@@ -49,8 +49,8 @@ returns-clause-fits c =
     let fronts = c.self.inside.fronts.items in
     let p = c.self.inside.state in
     let n = c.self.inside.static_size in
-    on_ok c.new_list.result (Takes pool c.new_list.new.pool c.new_list.new.fronts p c.new_list.new.state c.args.stride) (footprint (with_free_row c.args.self.now.lists) ≤ pool_size)
-    (λ row t. rw (← c.self.view_is) (taken_fits n pool c.new_list.new.pool fronts c.new_list.new.fronts p c.new_list.new.state c.args.stride row c.self.invariant t)) (takes c)
+    on_ok c.new_list.result (Takes pool c.new_list.new.pool c.new_list.new.fronts p c.new_list.new.at c.args.stride) (footprint (with_free_row c.args.self.now.lists) ≤ pool_size)
+    (λ row t. rw (← c.self.view_is) (taken_fits n pool c.new_list.new.pool fronts c.new_list.new.fronts p c.new_list.new.at c.args.stride row c.self.invariant t)) (takes c)
 
 pub returns-clause-passed : goal.returns-clause-passed
 returns-clause-passed c =
@@ -75,7 +75,7 @@ returns-clause-moves c =
     let n = c.self.inside.static_size in
     let items = with_items_is c.self.inside.pool c.new_list.new.pool (c.new_list.auto.pool ∙ c.deref_mut.ensures.len) in
     let base : p.base ≡ round4 (length (take n pool)) = c.self.invariant.base_is ∙ sym (ap round4 (length_static n pool fronts p c.self.invariant)) in
-    let new = pool_at c.new_list.new.pool c.new_list.new.state in
+    let new = pool_at c.new_list.new.pool c.new_list.new.at in
     let need = rw c.deref_mut.ensures.value at c.new_list.ensures.need in
     rw items
     (on_ok_weaker c.new_list.result (λ g.

@@ -115,7 +115,7 @@ resize_list-requires-clause-fits c =
     rw c.deref_mut.ensures.value
     (omega (arith, found, c.block_bytes.ensures, c.round4.ensures, c.if-footprint-gt-POOL_BYTES.false, block_inside n pool fronts p c.args.row c.self.invariant l.within))
 
-has : (c : goal.After-self-2-1) → HasLength c.self.inside.pool.items c.resize_list.new.pool c.resize_list.new.fronts c.self.inside.state c.resize_list.new.state c.args.row c.args.bytes
+has : (c : goal.After-self-2-1) → HasLength c.self.inside.pool.items c.resize_list.new.pool c.resize_list.new.fronts c.self.inside.state c.resize_list.new.at c.args.row c.args.bytes
 has c = rw c.deref_mut.ensures.value at c.resize_list.ensures.length
 
 pub invariant_of-self : goal.invariant_of-self
@@ -126,15 +126,15 @@ invariant_of-self c =
     let n = c.self.inside.static_size in
     let items = with_items_is c.self.inside.pool c.resize_list.new.pool (c.resize_list.auto.pool ∙ c.deref_mut.ensures.len) in
     let noted = with_items_is c.self.inside.fronts c.resize_list.new.fronts (c.resize_list.auto.fronts ∙ c.deref_mut-2.ensures.len) in
-    rw (items, noted) (still_heap n pool c.resize_list.new.pool fronts c.resize_list.new.fronts p c.resize_list.new.state c.self.invariant (has c).blocks (has c).base)
+    rw (items, noted) (still_heap n pool c.resize_list.new.pool fronts c.resize_list.new.fronts p c.resize_list.new.at c.self.invariant (has c).blocks (has c).base)
 
-state : (c : goal.After-self-2-1) → shown c.self.inside.static_size c.resize_list.new.pool c.resize_list.new.state ≡ with_length c.args.self.now.lists c.args.row c.args.bytes
+state : (c : goal.After-self-2-1) → shown c.self.inside.static_size c.resize_list.new.pool c.resize_list.new.at ≡ with_length c.args.self.now.lists c.args.row c.args.bytes
 state c =
     let pool = c.self.inside.pool.items in
     let fronts = c.self.inside.fronts.items in
     let p = c.self.inside.state in
     let n = c.self.inside.static_size in
-    after_length n pool c.resize_list.new.pool fronts c.resize_list.new.fronts p c.resize_list.new.state c.args.row c.args.bytes c.self.invariant (has c)
+    after_length n pool c.resize_list.new.pool fronts c.resize_list.new.fronts p c.resize_list.new.at c.args.row c.args.bytes c.self.invariant (has c)
     ∙ ap (λ h. with_length h.lists c.args.row c.args.bytes) c.self.view_is
 
 pub returns-clause-ok : goal.returns-clause-ok
@@ -146,12 +146,12 @@ returns-clause-fits c =
     let fronts = c.self.inside.fronts.items in
     let p = c.self.inside.state in
     let n = c.self.inside.static_size in
-    let then = still_heap n pool c.resize_list.new.pool fronts c.resize_list.new.fronts p c.resize_list.new.state c.self.invariant (has c).blocks (has c).base in
+    let then = still_heap n pool c.resize_list.new.pool fronts c.resize_list.new.fronts p c.resize_list.new.at c.self.invariant (has c).blocks (has c).base in
     omega (
       arith,
       ap footprint (state c),
-      footprint_state n c.resize_list.new.pool c.resize_list.new.fronts c.resize_list.new.state then,
-      footprint_inside n c.resize_list.new.pool c.resize_list.new.fronts c.resize_list.new.state then,
+      footprint_state n c.resize_list.new.pool c.resize_list.new.fronts c.resize_list.new.at then,
+      footprint_inside n c.resize_list.new.pool c.resize_list.new.fronts c.resize_list.new.at then,
     )
 
 pub returns-clause-moves : goal.returns-clause-moves
@@ -162,7 +162,7 @@ returns-clause-moves c =
     let n = c.self.inside.static_size in
     let items = with_items_is c.self.inside.pool c.resize_list.new.pool (c.resize_list.auto.pool ∙ c.deref_mut.ensures.len) in
     let base : p.base ≡ round4 (length (take n pool)) = c.self.invariant.base_is ∙ sym (ap round4 (length_static n pool fronts p c.self.invariant)) in
-    let new = pool_at c.resize_list.new.pool c.resize_list.new.state in
+    let new = pool_at c.resize_list.new.pool c.resize_list.new.at in
     let need : MovesAtNeed p.base (pool_at pool p) new c.args.row (round4 c.args.bytes) = rw c.deref_mut.ensures.value at c.resize_list.ensures.need in
     rw items
     (subst (λ h. MovesAtNeed (base_of h.lists) h.pool new c.args.row (round4 c.args.bytes)) c.self.view_is (subst (λ b. MovesAtNeed b (pool_at pool p) new c.args.row (round4 c.args.bytes)) base need))
@@ -182,6 +182,6 @@ returns-clause-shorter c fits =
     let size = size_lived n pool fronts p c.args.row c.self.invariant l in
     let seen = ap (λ h. length (bytes_at h.lists c.args.row)) c.self.view_is in
     let items = with_items_is c.self.inside.pool c.resize_list.new.pool (c.resize_list.auto.pool ∙ c.deref_mut.ensures.len) in
-    let new = pool_at c.resize_list.new.pool c.resize_list.new.state in
+    let new = pool_at c.resize_list.new.pool c.resize_list.new.at in
     let less : round4 c.args.bytes ≤ block_bytes (dope_row pool p.table c.args.row) = omega (arith, fits, size, seen, block_is (dope_row pool p.table c.args.row)) in
     rw items (subst (λ h. NoneMoves h.pool new) c.self.view_is ((rw c.deref_mut.ensures.value at c.resize_list.ensures.shorter) less))
