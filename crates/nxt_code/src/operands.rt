@@ -3,17 +3,19 @@
 ghost use Rattle.std.specs.Prelude.{◌≡◌, ◌<◌, length, IfOk, OnOk};
 ghost use Rattle.nxt_types.specs.Shapes.{Members};
 ghost use Rattle.nxt_types.specs.Statements.{IsWhole, statement_of};
-ghost use Rattle.nxt_types.specs.OperandRules.{sort_of, sort_at, shape_of as shape_of_sort, word_of, is_of_class as is_of_class_of, operand_fits as is_fit};
+ghost use Rattle.nxt_types.specs.OperandRules.{sort_of, sort_at, shape_of as shape_of_sort, operand_fits as is_fit};
+ghost use Rattle.nxt_operand_rules.specs.SeenOf.{seen as seen_of};
 ghost use Rattle.nxt_code.specs.CodeRules.{is_refused_operand, is_bad_operand};
 ghost use Rattle.nxt_code.specs.Decoding.{IsDecoded};
 ghost use Rattle.nxt_code.specs.Inside.KnownShapes.{shape_by, IsKnown};
 ghost use Rattle.nxt_code.specs.OperandsSeen.{operands, shape_seen};
 ghost use Rattle.nxt_code.specs.Inside.Places.{Finds, FindsPair};
 
-use crate::between::{fits_others, is_allowed};
+use crate::between::fits_others;
 use crate::known::Known;
-use crate::shapes::{is_list, is_mutex, is_number, is_text, is_value};
+use crate::shapes::seen;
 use crate::statements::Decoded;
+use nxt_operand_rules::{Seen, is_allowed, is_of_class};
 use nxt_types::NoMemory;
 use nxt_types::instr::Instr;
 use nxt_types::opcodes::Class;
@@ -79,11 +81,11 @@ fn operand_fits(
     ensures known { OnOk result (IsKnown toc.now.shapes known.new) }
 {
     let class = instr.op.class(k);
-    let word = instr.operand(words, k);
-    if !is_of_class(toc, clumps, class, word) || !is_allowed(instr.op, instr, words, k) {
+    let operand = seen_at(toc, instr, words, k);
+    if !is_of_class(clumps, class, operand) || !is_allowed(instr.op, k, operand.word()) {
         return Ok(false);
     }
-    fits_others(known, instr.op, toc, instr, words, k)
+    fits_others(known, toc, instr, words, k)
 }
 
 /// The word of operand k where it names a part, counted from 0; else one that names nothing.
@@ -99,25 +101,34 @@ pub fn name_at(instr: &Instr, words: &[u16], k: usize) -> u16
     name_of(class, word)
 }
 
-/// The shape of what operand k names, counted from 0.
-pub fn shape_at<'t>(toc: &'t Toc, instr: &Instr, words: &[u16], k: usize) -> Option<&'t Shape>
+/// What is seen of operand k, counted from 0.
+pub fn seen_at(toc: &Toc, instr: &Instr, words: &[u16], k: usize) -> Seen
     requires { IsWhole words.now instr.now }
-    ensures { shape_seen result ≡ shape_of_sort (sort_at (operands toc.now.shapes instr.now words.now) k) }
-{
-    named(toc, name_at(instr, words, k))
-}
-
-/// Operand k as a number that isn't a name, counted from 0; 0 for a name.
-pub fn number_at(instr: &Instr, words: &[u16], k: usize) -> u16
-    requires { IsWhole words.now instr.now }
-    ensures { (ss : Members) → result ≡ word_of (sort_at (operands ss instr.now words.now) k) }
+    ensures { result ≡ seen_of (sort_at (operands toc.now.shapes instr.now words.now) k) }
 {
     if k >= instr.operand_count(words) {
-        return 0;
+        return Seen::Nothing;
     }
     let class = instr.op.class(k);
     let word = instr.operand(words, k);
-    number_of(class, word)
+    seen_in(toc, class, word)
+}
+
+// What is seen of an operand of the class, by its word.
+fn seen_in(toc: &Toc, class: Class, word: u16) -> Seen
+    ensures { result ≡ seen_of (sort_of toc.now.shapes class word) }
+{
+    match class {
+        Class::Immediate | Class::Clump | Class::Offset => Seen::Word(word),
+        Class::OptionalOut | Class::OptionalIn => {
+            if word == LEFT_OUT {
+                Seen::Absent
+            } else {
+                seen(named(toc, word))
+            }
+        }
+        _ => seen(named(toc, word)),
+    }
 }
 
 // The word of an operand of the class where it names a part; else one that names nothing.
@@ -130,23 +141,6 @@ fn name_of(class: Class, word: u16) -> u16
     }
 }
 
-// The shape of what an operand of the class names.
-fn shape_of(toc: &Toc, class: Class, word: u16) -> Option<&Shape>
-    ensures { shape_seen result ≡ shape_of_sort (sort_of toc.now.shapes class word) }
-{
-    named(toc, name_of(class, word))
-}
-
-// An operand of the class as a number that isn't a name.
-fn number_of(class: Class, word: u16) -> u16
-    ensures { (ss : Members) → result ≡ word_of (sort_of ss class word) }
-{
-    match class {
-        Class::Immediate | Class::Clump | Class::Offset => word,
-        _ => 0,
-    }
-}
-
 /// The shape of the part that a word names.
 pub fn named(toc: &Toc, word: u16) -> Option<&Shape>
     ensures { shape_seen result ≡ shape_by toc.now.shapes word }
@@ -155,21 +149,5 @@ pub fn named(toc: &Toc, word: u16) -> Option<&Shape>
         toc.shape(word)
     } else {
         None
-    }
-}
-
-fn is_of_class(toc: &Toc, clumps: usize, class: Class, word: u16) -> bool
-    ensures { result ≡ is_of_class_of clumps class (sort_of toc.now.shapes class word) }
-{
-    let shape = shape_of(toc, class, word);
-    match class {
-        Class::NumberOut | Class::NumberIn => is_number(shape),
-        Class::List => is_list(shape),
-        Class::Text => is_text(shape),
-        Class::Anything => is_value(shape),
-        Class::Mutex => is_mutex(shape),
-        Class::Immediate | Class::Offset => true,
-        Class::Clump => usize::from(word) < clumps,
-        Class::OptionalOut | Class::OptionalIn => word == LEFT_OUT || is_number(shape),
     }
 }

@@ -1,80 +1,41 @@
 // Tests of the shapes of operands. An operand that names nothing has no shape.
 
 ghost use Rattle.std.specs.Prelude.{◌≡◌, false, map, MatchOption};
-ghost use Rattle.nxt_types.specs.Shapes.{is_number as is_number_shape, is_numbers as is_numbers_shape, has_list as has_list_shape, some_list, convertible as convertible_shapes, members as members_of, cluster_of, tree};
-ghost use Rattle.nxt_types.specs.Calls.{is_text as is_text_shape, is_place as is_place_shape, are_fields as are_fields_of, call_of, is_field as is_field_of};
-ghost use Rattle.nxt_types.specs.OperandRules.{is_list as is_list_shape, is_value as is_value_shape, is_mutex as is_mutex_shape, is_plain as is_plain_shape, are_alike as are_alike_shapes, element_of, is_group, is_cluster as is_cluster_shape};
-ghost use Rattle.nxt_code.specs.OperandsSeen.{shape_seen, is_ubyte as is_ubyte_shape};
+ghost use Rattle.nxt_types.specs.Shapes.{is_number as is_number_shape, has_list as has_list_shape, some_list, convertible as convertible_shapes, members as members_of, cluster_of, tree};
+ghost use Rattle.nxt_types.specs.Calls.{is_text as is_text_shape, is_place as is_place_shape, is_cluster_of as is_cluster_of_call, are_fields as are_fields_of, is_field as is_field_of};
+ghost use Rattle.nxt_types.specs.OperandRules.{element_of, is_group};
+ghost use Rattle.nxt_operand_rules.specs.SeenOf.{seen_by, seen_by_element};
+ghost use Rattle.nxt_code.specs.OperandsSeen.{shape_seen};
 
+use nxt_operand_rules::Seen;
 use nxt_types::calls::{Call, Field};
 use nxt_types::conversion::convertible;
 use nxt_types::kind::Kind;
 use nxt_types::shape::Shape;
 
-pub fn is_number(shape: Option<&Shape>) -> bool
-    ensures { result ≡ is_number_shape (shape_seen shape.entry) }
-{
-    matches!(shape, Some(Shape::Num(_)))
-}
-
-/// Whether it is a list of numbers.
-pub fn is_numbers(shape: Option<&Shape>) -> bool
-    ensures { result ≡ is_numbers_shape (shape_seen shape.entry) }
+/// What is seen of an operand that names a part of the shape.
+pub fn seen(shape: Option<&Shape>) -> Seen
+    ensures { result ≡ seen_by (shape_seen shape.entry) }
 {
     match shape {
-        Some(Shape::List(_, element)) => is_number(Some(element)),
-        _ => false,
+        None => Seen::Nothing,
+        Some(Shape::Void) => Seen::Nothing,
+        Some(Shape::Num(_)) => Seen::Number,
+        Some(Shape::List(_, element)) => seen_list(element),
+        Some(Shape::Group(_)) => Seen::Cluster,
+        Some(Shape::Mutex) => Seen::Mutex,
     }
 }
 
-/// Whether it is a number, or a list of numbers.
-pub fn is_plain(shape: Option<&Shape>) -> bool
-    ensures { result ≡ is_plain_shape (shape_seen shape.entry) }
+// The same of a list, by its elements.
+fn seen_list(element: &Shape) -> Seen
+    ensures { result ≡ seen_by_element (tree element.now) }
 {
-    is_number(shape) || is_numbers(shape)
-}
-
-/// Whether both are numbers, or both lists of numbers.
-pub fn are_alike(x: Option<&Shape>, y: Option<&Shape>) -> bool
-    ensures { result ≡ are_alike_shapes (shape_seen x.entry) (shape_seen y.entry) }
-{
-    (is_number(x) && is_number(y)) || (is_numbers(x) && is_numbers(y))
-}
-
-pub fn is_list(shape: Option<&Shape>) -> bool
-    ensures { result ≡ is_list_shape (shape_seen shape.entry) }
-{
-    matches!(shape, Some(Shape::List(..)))
-}
-
-/// Whether it is a list of ubyte.
-#[tactic(auto, using(crate::proofs::Arguments::ShapeTests::text_by_element))]
-pub fn is_text(shape: Option<&Shape>) -> bool
-    ensures { result ≡ is_text_shape (shape_seen shape.entry) }
-{
-    is_ubyte(element(shape))
-}
-
-fn is_ubyte(shape: Option<&Shape>) -> bool
-    ensures { result ≡ is_ubyte_shape (shape_seen shape.entry) }
-{
-    matches!(shape, Some(Shape::Num(Kind::Ubyte)))
-}
-
-/// Whether it is a number, a list or a group.
-pub fn is_value(shape: Option<&Shape>) -> bool
-    ensures { result ≡ is_value_shape (shape_seen shape.entry) }
-{
-    matches!(
-        shape,
-        Some(Shape::Num(_) | Shape::List(..) | Shape::Group(_))
-    )
-}
-
-pub fn is_mutex(shape: Option<&Shape>) -> bool
-    ensures { result ≡ is_mutex_shape (shape_seen shape.entry) }
-{
-    matches!(shape, Some(Shape::Mutex))
+    match element {
+        Shape::Num(Kind::Ubyte) => Seen::Text,
+        Shape::Num(_) => Seen::Numbers,
+        _ => Seen::List,
+    }
 }
 
 /// The shape of a list's elements.
@@ -143,19 +104,16 @@ fn some_holds_list(shapes: &[Shape]) -> bool
     false
 }
 
-/// Whether it is the cluster of a system call, or any cluster where no call has the number.
-pub fn is_cluster(number: u16, shape: Option<&Shape>) -> bool
-    ensures { result ≡ is_cluster_shape (call_of number) (shape_seen shape.entry) }
+/// Whether it is the cluster of a system call.
+pub fn is_cluster_of(call: Call, shape: Option<&Shape>) -> bool
+    ensures { result ≡ is_cluster_of_call call (shape_seen shape.entry) }
 {
     let Some(shape) = shape else {
         return false;
     };
-    let Some(members) = members(shape) else {
-        return false;
-    };
-    match Call::from_number(number) {
-        Some(call) => are_fields(call.fields(), members),
-        None => true,
+    match members(shape) {
+        Some(members) => are_fields(call.fields(), members),
+        None => false,
     }
 }
 
@@ -177,10 +135,23 @@ fn is_field(field: Field, shape: &Shape) -> bool
     ensures { result ≡ is_field_of field (tree shape.now) }
 {
     match field {
-        Field::Number => is_number(Some(shape)),
-        Field::Text => is_text(Some(shape)),
+        Field::Number => is_number(shape),
+        Field::Text => is_text(shape),
         Field::Place => is_place(shape),
     }
+}
+
+fn is_number(shape: &Shape) -> bool
+    ensures { result ≡ is_number_shape (tree shape.now) }
+{
+    seen(Some(shape)).is_number()
+}
+
+// Whether it is a list of ubyte.
+fn is_text(shape: &Shape) -> bool
+    ensures { result ≡ is_text_shape (tree shape.now) }
+{
+    seen(Some(shape)).is_text()
 }
 
 // Whether it is a group of two numbers.
@@ -197,7 +168,7 @@ fn are_two_numbers(shapes: &[Shape]) -> bool
     ensures { result ≡ is_place_shape (cluster_of (map tree shapes.now)) }
 {
     match shapes {
-        [x, y] => is_number(Some(x)) && is_number(Some(y)),
+        [x, y] => is_number(x) && is_number(y),
         _ => false,
     }
 }

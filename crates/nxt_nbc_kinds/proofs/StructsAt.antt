@@ -3,6 +3,8 @@ use Rattle.std.proofs.Common.{◌≡◌, ℕ, zero, suc, ◌<◌, ◌≤◌, Lis
 use Rattle.std.proofs.lemmas.List.{append-nil, append_assoc, length-map}
 use Rattle.std.proofs.lemmas.Simd.{map-map}
 use Rattle.nxt_types.specs.Shapes.{Void, cluster_of}
+use Rattle.nxt_operand_rules.specs.SeenOf.{seen_by}
+use Rattle.nxt_operand_rules.specs.declared.seen.Seen.TheVariants as look
 use Rattle.nxt_model.specs.Nbc.Types.{Struct, StructMember, shape_of_struct}
 use Rattle.nxt_model.specs.TextProgram.{shape_by}
 use Rattle.nxt_nbc_names.specs.Structs.{DeclaredMember, DeclaredStruct, member_of, struct_of, structs_from, shapes_of}
@@ -68,3 +70,17 @@ struct_at ss i s before items under there is members =
     ∙ ap (λ (d : DeclaredStruct). cluster_of (map shape d.members)) (get_seen ss i s ∙ ap struct_seen (sym there))
     ∙ ap (λ ms. cluster_of (map shape ms)) (sym members)
     ∙ ap cluster_of (map-map shape member_seen items)
+
+-- ---- what is seen of a struct
+
+pub seen_there : (ss : List ProgramStruct) (i : ℕ) → i < length ss → look.Cluster ≡ seen_by (slice_index_or (shapes_of (structs_seen ss)) i Void)
+seen_there ss i under =
+    let same = length-map ss struct_seen in
+    let inside : i < length (structs_seen ss) = omega arith in
+    sym (ap seen_by (shape_at (structs_seen ss) i (record { name = []; members = []; line = 0 }) inside))
+
+pub seen_past : (ss : List ProgramStruct) (i : ℕ) → length ss ≤ i → look.Nothing ≡ seen_by (slice_index_or (shapes_of (structs_seen ss)) i Void)
+seen_past ss i over =
+    let same = length-map ss struct_seen in
+    let outside : length (structs_seen ss) ≤ i = omega arith in
+    sym (ap seen_by (shape_past (structs_seen ss) i outside))

@@ -1,13 +1,15 @@
 -- Tests of types by their bases and arrays.
-use Rattle.std.proofs.Common.{◌≡◌, ℕ, zero, suc, ◌-◌, ◌<◌, ◌==◌, nat_lt, Bool, true, false, ◌||◌, List, [], ◌∷◌, map, slice_index_or, ℤ, Option, Some, None, refl, sym, ap, subst, ◌∙◌, arith}
+use Rattle.std.proofs.Common.{◌≡◌, ◌≢◌, ℕ, zero, suc, ◌-◌, ◌<◌, ◌==◌, nat_lt, Bool, false, List, [], ◌∷◌, map, slice_index_or, ℤ, Option, Some, None, refl, sym, ap, subst, ◌∙◌, arith}
 use Rattle.std.specs.Ordering.{int_eq}
 use Rattle.std.specs.Prelude.{if◌then◌else◌}
 use Rattle.std.proofs.lemmas.Bool.Decides.{nat_tests}
 use Rattle.nxt_types.specs.Arithmetic.{cut}
-use Rattle.nxt_types.specs.Shapes.{Shape, Void, Number, Array, Cluster, Mutex, Members, is_number, is_numbers}
-use Rattle.nxt_types.specs.Calls.{is_text}
-use Rattle.nxt_types.specs.OperandRules.{element_of, is_group, is_list, is_mutex, is_value}
+use Rattle.nxt_types.specs.Shapes.{Shape, Void, Number, Array, Cluster, Mutex, Members}
+use Rattle.nxt_types.specs.OperandRules.{element_of, is_group, is_list}
 use Rattle.nxt_types.specs.declared.kind.Kind.TheVariants.{Ubyte}
+use Rattle.nxt_operand_rules.specs.SeenOf.{seen_by, seen_by_element}
+use Rattle.nxt_operand_rules.specs.declared.seen.Seen.{Seen}
+use Rattle.nxt_operand_rules.specs.declared.seen.Seen.TheVariants as look
 use Rattle.nxt_model.specs.Nbc.Types.{Struct, arrays_of, shape_of_struct}
 use Rattle.nxt_model.specs.TextProgram.{base_shape}
 use Rattle.nxt_model.specs.Nbc.NbcRules.{fits_shape}
@@ -16,7 +18,7 @@ use Rattle.nxt_model.specs.declared.nbc.NbcBase.TheVariants as bases
 use Rattle.nxt_model.specs.declared.nbc.NbcType.{NbcType}
 use Rattle.nxt_nbc_names.specs.Structs.{DeclaredStruct, Types, declared, shapes_of, structs_of}
 use Rattle.nxt_nbc_kinds.specs.OperandsSeen.{shape_among, shape_seen}
-use Rattle.nxt_nbc_kinds.specs.TypeParts.{is_ubyte, single_base, struct_base, struct_position}
+use Rattle.nxt_nbc_kinds.specs.TypeParts.{single_base, struct_base, struct_position}
 
 -- ---- structs are clusters
 
@@ -26,18 +28,6 @@ at_struct P none some (s ∷ ss) zero = some _
 at_struct P none some (s ∷ ss) (suc i) = at_struct P none some ss i
 
 -- ---- tests by a base
-
-abbrev is_number_base : Option NbcBase → Bool
-is_number_base (Some (bases.Number k)) = true
-is_number_base _ = false
-
-abbrev is_ubyte_base : Option NbcBase → Bool
-is_ubyte_base (Some (bases.Number Ubyte)) = true
-is_ubyte_base _ = false
-
-abbrev is_mutex_base : Option NbcBase → Bool
-is_mutex_base (Some bases.Mutex) = true
-is_mutex_base _ = false
 
 abbrev fits_base : ℤ → Option NbcBase → Bool
 fits_base z (Some (bases.Number k)) = int_eq (cut k z) z
@@ -55,22 +45,6 @@ module _ (test : Shape → Bool) (by_base : Option NbcBase → Bool) (none : by_
   test_by_base ds None = none
   test_by_base ds (Some s) = at_arrays ds s.base s.arrays
 
-number_there : (ds : List DeclaredStruct) (b : NbcBase) → is_number_base (Some b) ≡ is_number (base_shape (shapes_of ds) b)
-number_there ds (bases.Number k) = refl
-number_there ds bases.Mutex = refl
-number_there ds (bases.Struct i) = at_struct (λ s. false ≡ is_number s) refl (λ ms. refl) (structs_of ds) i
-
-ubyte_there : (ds : List DeclaredStruct) (b : NbcBase) → is_ubyte_base (Some b) ≡ is_ubyte (base_shape (shapes_of ds) b)
-ubyte_there ds (bases.Number Ubyte) = refl
-ubyte_there ds (bases.Number k) = refl
-ubyte_there ds bases.Mutex = refl
-ubyte_there ds (bases.Struct i) = at_struct (λ s. false ≡ is_ubyte s) refl (λ ms. refl) (structs_of ds) i
-
-mutex_there : (ds : List DeclaredStruct) (b : NbcBase) → is_mutex_base (Some b) ≡ is_mutex (base_shape (shapes_of ds) b)
-mutex_there ds (bases.Number k) = refl
-mutex_there ds bases.Mutex = refl
-mutex_there ds (bases.Struct i) = at_struct (λ s. false ≡ is_mutex s) refl (λ ms. refl) (structs_of ds) i
-
 list_there : (ds : List DeclaredStruct) (b : NbcBase) → false ≡ is_list (base_shape (shapes_of ds) b)
 list_there ds (bases.Number k) = refl
 list_there ds bases.Mutex = refl
@@ -80,15 +54,6 @@ fits_there : (z : ℤ) (ds : List DeclaredStruct) (b : NbcBase) → fits_base z 
 fits_there z ds (bases.Number k) = refl
 fits_there z ds bases.Mutex = refl
 fits_there z ds (bases.Struct i) = at_struct (λ s. false ≡ fits_shape s z) refl (λ ms. refl) (structs_of ds) i
-
-pub number_by_base : (t : Types) (s : Option NbcType) → is_number (shape_seen t s) ≡ is_number_base (single_base s)
-number_by_base t s = sym (test_by_base is_number is_number_base refl (λ n e. refl) number_there (declared t) s)
-
-pub ubyte_by_base : (t : Types) (s : Option NbcType) → is_ubyte (shape_seen t s) ≡ is_ubyte_base (single_base s)
-ubyte_by_base t s = sym (test_by_base is_ubyte is_ubyte_base refl (λ n e. refl) ubyte_there (declared t) s)
-
-pub mutex_by_base : (t : Types) (s : Option NbcType) → is_mutex (shape_seen t s) ≡ is_mutex_base (single_base s)
-mutex_by_base t s = sym (test_by_base is_mutex is_mutex_base refl (λ n e. refl) mutex_there (declared t) s)
 
 pub fits_by_base : (t : Types) (s : Option NbcType) (z : ℤ) → fits_shape (shape_seen t s) z ≡ fits_base z (single_base s)
 fits_by_base t s z = sym (test_by_base (λ x. fits_shape x z) (fits_base z) refl (λ n e. refl) (fits_there z) (declared t) s)
@@ -116,33 +81,24 @@ pub element_some : (ss : List Shape) (b : NbcBase) (n : ℕ) → 0 < n → array
 element_some ss b zero some = absurd (omega arith)
 element_some ss b (suc n) some = ap (λ m. arrays_of m (base_shape ss b)) (let same : suc n - 1 ≡ n = omega arith in same)
 
--- ---- by elements
+-- ---- what is seen of lists
 
-pub numbers_by_element : (s : Shape) → is_numbers s ≡ is_number (element_of s)
-numbers_by_element Void = refl
-numbers_by_element (Number k) = refl
-numbers_by_element (Array n s) = refl
-numbers_by_element (Cluster ms) = refl
-numbers_by_element Mutex = refl
+abbrev list_of : NbcBase → Seen
+list_of (bases.Number Ubyte) = look.Text
+list_of (bases.Number k) = look.Numbers
+list_of bases.Mutex = look.List
+list_of (bases.Struct i) = look.List
 
-pub text_by_element : (s : Shape) → is_text s ≡ is_ubyte (element_of s)
-text_by_element Void = refl
-text_by_element (Number k) = refl
-text_by_element (Array n Void) = refl
-text_by_element (Array n (Number Ubyte)) = refl
-text_by_element (Array n (Number _)) = refl
-text_by_element (Array n (Array m s)) = refl
-text_by_element (Array n (Cluster ms)) = refl
-text_by_element (Array n Mutex) = refl
-text_by_element (Cluster ms) = refl
-text_by_element Mutex = refl
+pub list_by_base : (ds : List DeclaredStruct) (b : NbcBase) → seen_by_element (base_shape (shapes_of ds) b) ≡ list_of b
+list_by_base ds (bases.Number Ubyte) = refl
+list_by_base ds (bases.Number _) = refl
+list_by_base ds bases.Mutex = refl
+list_by_base ds (bases.Struct i) = at_struct (λ s. seen_by_element s ≡ look.List) refl (λ ms. refl) (structs_of ds) i
 
-pub value_by_tests : (s : Shape) → is_value s ≡ (is_number s || is_list s || is_group s)
-value_by_tests Void = refl
-value_by_tests (Number k) = refl
-value_by_tests (Array n s) = refl
-value_by_tests (Cluster ms) = refl
-value_by_tests Mutex = refl
+pub lists_seen : (s : Shape) (n : ℕ) → n ≢ 0 → n ≢ 1 → look.List ≡ seen_by (arrays_of n s)
+lists_seen s zero a b = absurd (a refl)
+lists_seen s (suc zero) a b = absurd (b refl)
+lists_seen s (suc (suc n)) a b = refl
 
 -- ---- structs by their positions
 

@@ -1,7 +1,5 @@
 -- What the program's operands are seen as.
-use Rattle.std.specs.Prelude.{Bool, true, false, List, map, Option, Some, None}
-use Rattle.nxt_types.specs.declared.instr.Op.{Op}
-use Rattle.nxt_types.specs.declared.instr.Op.TheVariants as ops
+use Rattle.std.specs.Prelude.{List, map, Option, Some, None}
 use Rattle.nxt_types.specs.Shapes.{Shape, Void}
 use Rattle.nxt_types.specs.OperandRules as rules
 use Rattle.nxt_types.specs.OperandRules.{Sort}
@@ -27,15 +25,3 @@ operand_seen t operands.Unknown = rules.Unknown
 
 abbrev pub operands_seen : Types → List Operand → List Sort
 operands_seen t os = map (operand_seen t) os
-
--- something is asked of all that stands in a type
-abbrev pub asks_all : Op → Bool
-asks_all ops.Index = true
-asks_all ops.Replace = true
-asks_all ops.Arrbuild = true
-asks_all ops.Arrsubset = true
-asks_all ops.Arrinit = true
-asks_all ops.Mov = true
-asks_all ops.Flatten = true
-asks_all ops.Unflatten = true
-asks_all _ = false

@@ -1,7 +1,5 @@
 -- What types are made of.
-use Rattle.std.specs.Prelude.{ℕ, Bool, true, false, ◌==◌, if◌then◌else◌, Option, Some, None}
-use Rattle.nxt_types.specs.Shapes.{Shape, Number}
-use Rattle.nxt_types.specs.declared.kind.Kind.TheVariants.{Ubyte}
+use Rattle.std.specs.Prelude.{ℕ, ◌==◌, if◌then◌else◌, Option, Some, None}
 use Rattle.nxt_model.specs.declared.nbc.NbcBase.{NbcBase}
 use Rattle.nxt_model.specs.declared.nbc.NbcBase.TheVariants.{Struct}
 use Rattle.nxt_model.specs.declared.nbc.NbcType.{NbcType}
@@ -18,7 +16,3 @@ struct_base _ = None
 -- the position of the struct that it is, if it is one
 abbrev pub struct_position : Option NbcType → Option ℕ
 struct_position s = struct_base (single_base s)
-
-abbrev pub is_ubyte : Shape → Bool
-is_ubyte (Number Ubyte) = true
-is_ubyte _ = false

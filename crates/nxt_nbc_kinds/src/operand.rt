@@ -1,11 +1,15 @@
 // What the operands of statements are.
 
 ghost use Rattle.std.specs.Prelude.{◌≡◌};
-ghost use Rattle.nxt_types.specs.OperandRules.{is_absent, shape_of, sort_at, word_of};
+ghost use Rattle.nxt_types.specs.OperandRules.{shape_of, sort_at, word_of};
+ghost use Rattle.nxt_operand_rules.specs.SeenOf.{seen as seen_of};
 ghost use Rattle.nxt_nbc_names.specs.Structs.{Types};
 ghost use Rattle.nxt_nbc_kinds.specs.OperandsSeen.{operand_seen, operands_seen, shape_seen};
 
+use crate::types::seen;
 use nxt_model::nbc::NbcType;
+use nxt_nbc_names::StructTable;
+use nxt_operand_rules::Seen;
 use nxt_types::lists::ListOf;
 
 /// What an operand of a statement is.
@@ -45,11 +49,26 @@ impl Operand {
         }
     }
 
-    /// Whether it is left out.
-    pub fn is_absent(self) -> bool
-        ensures { (t : Types) → result ≡ is_absent (operand_seen t self) }
+    /// What is seen of it, among structs.
+    pub fn seen(self, structs: &StructTable<'_>) -> Seen
+        ensures { result ≡ seen_of (operand_seen structs.now self) }
     {
-        matches!(self, Operand::Absent)
+        match self {
+            Operand::Part(shape) => seen(structs.as_slice(), shape),
+            Operand::Word(number) => Seen::Word(number),
+            Operand::Absent => Seen::Absent,
+            Operand::Unknown => Seen::Nothing,
+        }
+    }
+}
+
+/// What is seen of operand k, counted from 0.
+pub(crate) fn seen_at(structs: &StructTable<'_>, operands: &[Operand], k: usize) -> Seen
+    ensures { result ≡ seen_of (sort_at (operands_seen structs.now operands.now) k) }
+{
+    match operands.get(k) {
+        Some(operand) => operand.seen(structs),
+        None => Seen::Nothing,
     }
 }
 

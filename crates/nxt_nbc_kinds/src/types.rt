@@ -1,21 +1,80 @@
 // Tests of the types of operands. An operand that is no part has no type.
 
 ghost use Rattle.std.specs.Prelude.{◌≡◌, false, List, map, MatchOption};
-ghost use Rattle.nxt_types.specs.Shapes.{cluster_of, convertible, has_list as has_list_shape, is_number as is_number_shape, is_numbers as is_numbers_shape, members as members_of};
-ghost use Rattle.nxt_types.specs.Calls.{are_fields as are_fields_of, call_of, is_field as is_field_of, is_place as is_place_shape, is_text as is_text_shape};
-ghost use Rattle.nxt_types.specs.OperandRules.{are_alike as are_alike_shapes, element_of, goes_into as goes_into_list, is_cluster as is_cluster_shape, is_group, is_list as is_list_shape, is_mutex as is_mutex_shape, is_plain as is_plain_shape, is_value as is_value_shape};
-ghost use Rattle.nxt_model.specs.TextProgram.{shape_by};
+ghost use Rattle.nxt_types.specs.Shapes.{cluster_of, convertible, has_list as has_list_shape, is_number as is_number_shape, members as members_of};
+ghost use Rattle.nxt_types.specs.Calls.{are_fields as are_fields_of, is_cluster_of as is_cluster_of_call, is_field as is_field_of, is_place as is_place_shape, is_text as is_text_shape};
+ghost use Rattle.nxt_types.specs.OperandRules.{element_of, goes_into as goes_into_list, is_group, is_list as is_list_shape};
+ghost use Rattle.nxt_operand_rules.specs.SeenOf.{seen_by, seen_by_element};
+ghost use Rattle.nxt_model.specs.TextProgram.{base_shape, shape_by};
 ghost use Rattle.nxt_nbc_names.specs.Structs.{DeclaredStruct, Types, shapes_of};
 ghost use Rattle.nxt_nbc_names.specs.StructsSeen.{structs_seen};
 ghost use Rattle.nxt_nbc_kinds.specs.ConvertingStructs.{AreConversions};
 ghost use Rattle.nxt_nbc_kinds.specs.OperandsSeen.{shape_among, shape_seen};
-ghost use Rattle.nxt_nbc_kinds.specs.TypeParts.{is_ubyte as is_ubyte_shape, single_base as single_base_of, struct_position as struct_position_of};
+ghost use Rattle.nxt_nbc_kinds.specs.TypeParts.{single_base as single_base_of, struct_position as struct_position_of};
 
 use crate::conversions::Conversions;
 use nxt_model::nbc::{NbcBase, NbcType};
 use nxt_nbc_names::{Member, Struct, StructTable};
+use nxt_operand_rules::Seen;
 use nxt_types::calls::{Call, Field};
 use nxt_types::kind::Kind;
+
+// ---- what is seen
+
+/// What is seen of an operand that is a part of the type, among structs.
+#[tactic(auto, using(crate::proofs::TypeTests::lists_seen))]
+pub fn seen(structs: &[Struct<'_>], shape: NbcType) -> Seen
+    ensures { result ≡ seen_by (shape_by (shapes_of (structs_seen structs.now)) shape) }
+{
+    match shape.arrays {
+        0 => seen_base(structs, shape.base),
+        1 => seen_list(shape.base),
+        _ => Seen::List,
+    }
+}
+
+fn seen_base(structs: &[Struct<'_>], base: NbcBase) -> Seen
+    ensures { result ≡ seen_by (base_shape (shapes_of (structs_seen structs.now)) base) }
+{
+    match base {
+        NbcBase::Number(_) => Seen::Number,
+        NbcBase::Mutex => Seen::Mutex,
+        NbcBase::Struct(position) => {
+            if position < structs.len() {
+                Seen::Cluster
+            } else {
+                Seen::Nothing
+            }
+        }
+    }
+}
+
+// What is seen of a list, by the base of its elements.
+#[tactic(auto, using(crate::proofs::TypeTests::list_by_base))]
+fn seen_list(base: NbcBase) -> Seen
+    ensures { (ds : List DeclaredStruct) → result ≡ seen_by_element (base_shape (shapes_of ds) base) }
+{
+    match base {
+        NbcBase::Number(Kind::Ubyte) => Seen::Text,
+        NbcBase::Number(_) => Seen::Numbers,
+        NbcBase::Mutex | NbcBase::Struct(_) => Seen::List,
+    }
+}
+
+fn is_number(structs: &[Struct<'_>], shape: NbcType) -> bool
+    ensures { result ≡ is_number_shape (shape_by (shapes_of (structs_seen structs.now)) shape) }
+{
+    seen(structs, shape).is_number()
+}
+
+// Whether it is a list of ubyte.
+fn is_text(structs: &[Struct<'_>], shape: NbcType) -> bool
+    ensures { result ≡ is_text_shape (shape_by (shapes_of (structs_seen structs.now)) shape) }
+{
+    seen(structs, shape).is_text()
+}
+
+// ---- parts
 
 /// The base of a type that is no array.
 pub fn single_base(shape: Option<NbcType>) -> Option<NbcBase>
@@ -24,36 +83,6 @@ pub fn single_base(shape: Option<NbcType>) -> Option<NbcBase>
     match shape {
         Some(shape) if shape.arrays == 0 => Some(shape.base),
         _ => None,
-    }
-}
-
-#[tactic(auto, using(crate::proofs::TypeTests::number_by_base))]
-pub fn is_number(shape: Option<NbcType>) -> bool
-    ensures { (t : Types) → result ≡ is_number_shape (shape_seen t shape) }
-{
-    match single_base(shape) {
-        Some(NbcBase::Number(_)) => true,
-        Some(NbcBase::Mutex | NbcBase::Struct(_)) | None => false,
-    }
-}
-
-#[tactic(auto, using(crate::proofs::TypeTests::ubyte_by_base))]
-fn is_ubyte(shape: Option<NbcType>) -> bool
-    ensures { (t : Types) → result ≡ is_ubyte_shape (shape_seen t shape) }
-{
-    match single_base(shape) {
-        Some(NbcBase::Number(kind)) => kind == Kind::Ubyte,
-        Some(NbcBase::Mutex | NbcBase::Struct(_)) | None => false,
-    }
-}
-
-#[tactic(auto, using(crate::proofs::TypeTests::mutex_by_base))]
-pub fn is_mutex(shape: Option<NbcType>) -> bool
-    ensures { (t : Types) → result ≡ is_mutex_shape (shape_seen t shape) }
-{
-    match single_base(shape) {
-        Some(NbcBase::Mutex) => true,
-        Some(NbcBase::Number(_) | NbcBase::Struct(_)) | None => false,
     }
 }
 
@@ -79,50 +108,6 @@ pub fn element(shape: Option<NbcType>) -> Option<NbcType>
         }),
         _ => None,
     }
-}
-
-/// Whether it is a list of numbers.
-#[tactic(auto, using(crate::proofs::TypeTests::numbers_by_element))]
-pub fn is_numbers(shape: Option<NbcType>) -> bool
-    ensures { (t : Types) → result ≡ is_numbers_shape (shape_seen t shape) }
-{
-    is_number(element(shape))
-}
-
-/// Whether it is a list of ubyte.
-#[tactic(auto, using(crate::proofs::TypeTests::text_by_element))]
-pub fn is_text(shape: Option<NbcType>) -> bool
-    ensures { (t : Types) → result ≡ is_text_shape (shape_seen t shape) }
-{
-    is_ubyte(element(shape))
-}
-
-/// Whether it is a number, or a list of numbers.
-pub fn is_plain(shape: Option<NbcType>) -> bool
-    ensures { (t : Types) → result ≡ is_plain_shape (shape_seen t shape) }
-{
-    is_number(shape) || is_numbers(shape)
-}
-
-/// Whether both are numbers, or both lists of numbers.
-pub fn are_alike(x: Option<NbcType>, y: Option<NbcType>) -> bool
-    ensures { (t : Types) → result ≡ are_alike_shapes (shape_seen t x) (shape_seen t y) }
-{
-    (is_number(x) && is_number(y)) || (is_numbers(x) && is_numbers(y))
-}
-
-/// Whether it is a number, a list or a struct.
-#[tactic(auto, using(crate::proofs::TypeTests::value_by_tests))]
-pub fn is_value(structs: &StructTable<'_>, shape: Option<NbcType>) -> bool
-    ensures { result ≡ is_value_shape (shape_seen structs.now shape) }
-{
-    is_number(shape) || is_list(shape) || is_struct(structs, shape)
-}
-
-fn is_struct(structs: &StructTable<'_>, shape: Option<NbcType>) -> bool
-    ensures { result ≡ is_group (shape_seen structs.now shape) }
-{
-    parts(structs.as_slice(), shape).is_some()
 }
 
 /// Whether some list stands in it.
@@ -188,16 +173,13 @@ fn parts<'s, 'a>(structs: &'s [Struct<'a>], shape: Option<NbcType>) -> Option<St
     }
 }
 
-/// Whether it is the cluster of a system call, or any struct where no call has the number.
-pub fn is_cluster(structs: &StructTable<'_>, number: u16, shape: Option<NbcType>) -> bool
-    ensures { result ≡ is_cluster_shape (call_of number) (shape_seen structs.now shape) }
+/// Whether it is the cluster of a system call.
+pub fn is_cluster_of(structs: &StructTable<'_>, call: Call, shape: Option<NbcType>) -> bool
+    ensures { result ≡ is_cluster_of_call call (shape_seen structs.now shape) }
 {
-    let Some(parts) = parts(structs.as_slice(), shape) else {
-        return false;
-    };
-    match Call::from_number(number) {
-        Some(call) => are_fields(call.fields(), parts.before, parts.members),
-        None => true,
+    match parts(structs.as_slice(), shape) {
+        Some(parts) => are_fields(call.fields(), parts.before, parts.members),
+        None => false,
     }
 }
 
@@ -220,8 +202,8 @@ fn is_field(field: Field, structs: &[Struct<'_>], shape: NbcType) -> bool
     ensures { result ≡ is_field_of field (shape_by (shapes_of (structs_seen structs.now)) shape) }
 {
     match field {
-        Field::Number => is_number(Some(shape)),
-        Field::Text => is_text(Some(shape)),
+        Field::Number => is_number(structs, shape),
+        Field::Text => is_text(structs, shape),
         Field::Place => is_place(structs, shape),
     }
 }
@@ -231,16 +213,16 @@ fn is_place(structs: &[Struct<'_>], shape: NbcType) -> bool
     ensures { result ≡ is_place_shape (shape_by (shapes_of (structs_seen structs.now)) shape) }
 {
     match parts(structs, Some(shape)) {
-        Some(parts) => are_two_numbers(parts.members),
+        Some(parts) => are_two_numbers(parts.before, parts.members),
         None => false,
     }
 }
 
-fn are_two_numbers(members: &[Member<'_>]) -> bool
-    ensures { (ds : List DeclaredStruct) → result ≡ is_place_shape (cluster_of (map (λ m. shape_by (shapes_of ds) m.shape) members.now)) }
+fn are_two_numbers(structs: &[Struct<'_>], members: &[Member<'_>]) -> bool
+    ensures { result ≡ is_place_shape (cluster_of (map (λ m. shape_by (shapes_of (structs_seen structs.now)) m.shape) members.now)) }
 {
     match members {
-        [x, y] => is_number(Some(x.shape)) && is_number(Some(y.shape)),
+        [x, y] => is_number(structs, x.shape) && is_number(structs, y.shape),
         _ => false,
     }
 }

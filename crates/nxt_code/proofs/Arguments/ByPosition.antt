@@ -1,17 +1,18 @@
 -- Operands by position.
-use Rattle.std.proofs.Common.{◌≡◌, ◌≢◌, ℕ, zero, suc, ◌+◌, ◌-◌, ◌*◌, ◌<◌, ◌≤◌, ◌==◌, nat_le, nat_lt, ◌%◌, ◌/◌, Bool, true, false, not, ◌&&◌, List, [], ◌∷◌, length, map, drop, refl, sym, ap, ◌∙◌, arith, get_or, Option, Some, None}
+use Rattle.std.proofs.Common.{◌≡◌, ◌≢◌, ◌⊎◌, inl, inr, ℕ, zero, suc, ◌+◌, ◌-◌, ◌*◌, ◌<◌, ◌≤◌, ◌==◌, nat_le, nat_lt, ◌%◌, ◌/◌, Bool, true, false, not, ◌&&◌, List, [], ◌∷◌, length, map, refl, sym, ap, ◌∙◌, arith, get_or, Option, Some, None}
 use Rattle.std.specs.Prelude.{if◌then◌else◌, zip}
-use Rattle.std.proofs.lemmas.List.{get_or-map, get_or_past, get_or-drop, length-drop, length-replicate, get_or-replicate}
-use Rattle.std.proofs.lemmas.Bool.{eqb-true, eq-eqb, ne_eqb, and_parts, leb-true, and_from, and_left, and_right, lt-ltb, le-leb}
+use Rattle.std.proofs.lemmas.List.{get_or_past, length-replicate, get_or-replicate}
+use Rattle.std.proofs.lemmas.Bool.{eqb-true, ne_eqb, and_parts, leb-true, and_from, and_left, and_right, lt-ltb, le-leb}
 use Rattle.nxt_code.specs.Inside.Places.{Finds}
 use Rattle.nxt_types.specs.declared.instr.Instr.{Instr}
-use Rattle.nxt_types.specs.Shapes.{Shape, Members}
+use Rattle.nxt_types.specs.Shapes.{Members}
 use Rattle.nxt_types.specs.Names.{Name, named}
 use Rattle.nxt_types.specs.Opcodes.{Operands, fixed, first_and_more, first_and_pairs, arity_of, takes, classes_of, pairs_of, class_in, row}
 use Rattle.nxt_types.specs.Statements.{statement_of, IsWhole}
-use Rattle.nxt_types.specs.OperandRules.{Sort, Absent, Unknown, sort_of, sort_of_name, sort_at, word_of, shape_of, pairs_fit, goes_into, is_of_class}
+use Rattle.nxt_types.specs.OperandRules.{Absent, Unknown, sort_of, sort_of_name, sort_at, shape_of, is_of_class}
 use Rattle.nxt_types.specs.declared.opcodes.Class.{Class}
 use Rattle.nxt_types.specs.declared.opcodes.Class.TheVariants as classes
+use Rattle.nxt_operand_rules.specs.SeenOf.{seen, seen_by}
 use Rattle.nxt_code.specs.OperandsSeen.{operands}
 
 -- ---- classes
@@ -95,67 +96,34 @@ module _ (ss : Members) (i : Instr) (words : List ℕ) (is : IsWhole words i) wh
   pub sort_past : (k : ℕ) → length args ≤ k → sort_at (operands ss i words) k ≡ Unknown
   sort_past k l = let n = operands_count in get_or_past (operands ss i words) k Unknown (omega (arith, n, l))
 
-  -- the others of arrbuild
-  pub others_go : (k : ℕ) → k ≢ 0 → k < length args → (list : Shape) →
-      get_or (true ∷ map (λ o. goes_into list (shape_of o)) (drop 1 (operands ss i words))) k true ≡ goes_into list (shape_of (sort_at (operands ss i words) k))
-  others_go zero h l list = absurd (h refl)
-  others_go (suc k) h l list =
-      let os = operands ss i words in
-      let n = operands_count in
-      let d = length-drop 1 os in
-      get_or-map (λ o. goes_into list (shape_of o)) (drop 1 os) k Unknown true (omega (arith, n, d, l))
-      ∙ ap (λ o. goes_into list (shape_of o)) (get_or-drop 1 os k Unknown ∙ ap (λ j. get_or os j Unknown) (let e : 1 + k ≡ suc k = omega arith in e))
+-- ---- what is seen of an operand
 
-no_word : (o : Option Name) → 0 ≡ word_of (sort_of_name o)
-no_word None = refl
-no_word (Some n) = refl
+seen_named : (ss : Members) (w : ℕ) → seen (sort_of_name (named ss w)) ≡ seen_by (shape_of (sort_of_name (named ss w)))
+seen_named ss w = by (named ss w)
+  where
+    by : (o : Option Name) → seen (sort_of_name o) ≡ seen_by (shape_of (sort_of_name o))
+    by None = refl
+    by (Some n) = refl
 
-no_word_left_out : (b : Bool) (o : Option Name) → 0 ≡ word_of (if b then Absent else sort_of_name o)
-no_word_left_out true o = refl
-no_word_left_out false o = no_word o
+pub seen_optional : (ss : Members) (c : Class) (w : ℕ) → (c ≡ classes.OptionalOut) ⊎ (c ≡ classes.OptionalIn) → w ≢ 65535 → seen_by (shape_of (sort_of_name (named ss w))) ≡ seen (sort_of ss c w)
+seen_optional ss c w which some = sym (elim which [ inl e ↦ ap (λ d. seen (sort_of ss d w)) e ∙ there | inr e ↦ ap (λ d. seen (sort_of ss d w)) e ∙ there ])
+  where
+    there : seen (if w == 65535 then Absent else sort_of_name (named ss w)) ≡ seen_by (shape_of (sort_of_name (named ss w)))
+    there = ap (λ b. seen (if b then Absent else sort_of_name (named ss w))) (ne_eqb w 65535 some) ∙ seen_named ss w
 
-pub no_number : (ss : Members) (c : Class) (w : ℕ) → c ≢ classes.Immediate → c ≢ classes.Clump → c ≢ classes.Offset → 0 ≡ word_of (sort_of ss c w)
-no_number ss classes.Immediate w a b d = absurd (a refl)
-no_number ss classes.Clump w a b d = absurd (b refl)
-no_number ss classes.Offset w a b d = absurd (d refl)
-no_number ss classes.OptionalOut w a b d = no_word_left_out (w == 0xFFFF) (named ss w)
-no_number ss classes.OptionalIn w a b d = no_word_left_out (w == 0xFFFF) (named ss w)
-no_number ss classes.NumberOut w a b d = no_word (named ss w)
-no_number ss classes.NumberIn w a b d = no_word (named ss w)
-no_number ss classes.List w a b d = no_word (named ss w)
-no_number ss classes.Text w a b d = no_word (named ss w)
-no_number ss classes.Anything w a b d = no_word (named ss w)
-no_number ss classes.Mutex w a b d = no_word (named ss w)
-
--- ---- properties
-
-same_either : (b : Bool) → true ≡ (if b then true else true)
-same_either true = refl
-same_either false = refl
-
-pairs_at : (os : List Sort) (j : ℕ) → get_or (pairs_fit 14 os) j true ≡ (if j % 2 == 0 then nat_le (word_of (get_or os j Unknown)) 14 else true)
-pairs_at [] j = same_either (j % 2 == 0)
-pairs_at (p ∷ []) zero = refl
-pairs_at (p ∷ []) (suc j) = same_either (suc j % 2 == 0)
-pairs_at (p ∷ v ∷ more) zero = refl
-pairs_at (p ∷ v ∷ more) (suc zero) = refl
-pairs_at (p ∷ v ∷ more) (suc (suc j)) =
-    let m : j % 2 ≡ suc (suc j) % 2 = omega arith in
-    pairs_at more j ∙ ap (λ r. if r == 0 then nat_le (word_of (get_or more j Unknown)) 14 else true) m
-
-pub even_allowed : (os : List Sort) (k : ℕ) → k % 2 ≡ 0 → get_or (true ∷ pairs_fit 14 (drop 1 os)) k true ≡ true
-even_allowed os zero h = refl
-even_allowed os (suc k) h =
-    let m : k % 2 ≢ 0 = (λ e. omega (arith, e, h)) in
-    pairs_at (drop 1 os) k ∙ ap (λ b. if b then nat_le (word_of (get_or (drop 1 os) k Unknown)) 14 else true) (ne_eqb (k % 2) 0 m)
-
-pub odd_allowed : (os : List Sort) (k : ℕ) → k % 2 ≢ 0 → get_or (true ∷ pairs_fit 14 (drop 1 os)) k true ≡ nat_le (word_of (sort_at os k)) 14
-odd_allowed os zero h = absurd (h refl)
-odd_allowed os (suc k) h =
-    let m : k % 2 ≡ 0 = omega (arith, h) in
-    pairs_at (drop 1 os) k
-    ∙ ap (λ b. if b then nat_le (word_of (get_or (drop 1 os) k Unknown)) 14 else true) (eq-eqb (k % 2) 0 m)
-    ∙ ap (λ s. nat_le (word_of s) 14) (get_or-drop 1 os k Unknown ∙ ap (λ j. get_or os j Unknown) (let e : 1 + k ≡ suc k = omega arith in e))
+pub seen_part : (ss : Members) (c : Class) (w : ℕ) → c ≢ classes.Immediate → c ≢ classes.Clump → c ≢ classes.Offset → c ≢ classes.OptionalOut → c ≢ classes.OptionalIn
+    → seen_by (shape_of (sort_of_name (named ss w))) ≡ seen (sort_of ss c w)
+seen_part ss classes.Immediate w a b d e f = absurd (a refl)
+seen_part ss classes.Clump w a b d e f = absurd (b refl)
+seen_part ss classes.Offset w a b d e f = absurd (d refl)
+seen_part ss classes.OptionalOut w a b d e f = absurd (e refl)
+seen_part ss classes.OptionalIn w a b d e f = absurd (f refl)
+seen_part ss classes.NumberOut w a b d e f = sym (seen_named ss w)
+seen_part ss classes.NumberIn w a b d e f = sym (seen_named ss w)
+seen_part ss classes.List w a b d e f = sym (seen_named ss w)
+seen_part ss classes.Text w a b d e f = sym (seen_named ss w)
+seen_part ss classes.Anything w a b d e f = sym (seen_named ss w)
+seen_part ss classes.Mutex w a b d e f = sym (seen_named ss w)
 
 -- ---- the first that doesn't fit
 
@@ -191,8 +159,6 @@ middle_decides v true B false e f g = cc
 middle_decides v false B C e f g = cc
 
 module _ (ss : Members) (i : Instr) (words : List ℕ) (is : IsWhole words i) where
-  pub class_test_there : (clumps k : ℕ) (c : Class) (w : ℕ) → k < length (statement_of i words).args → c ≡ class_in (row i.op).operands k → w ≡ get_or (statement_of i words).args k 0 →
-      is_of_class clumps c (sort_of ss c w) ≡ is_of_class clumps (get_or (classes_of (row i.op).operands (length (operands ss i words))) k classes.Immediate) (sort_at (operands ss i words) k)
-  class_test_there clumps k c w l e f =
-      ap (is_of_class clumps c) (sym (sort_there ss i words is k c w l e f))
-      ∙ ap (λ d. is_of_class clumps d (sort_at (operands ss i words) k)) (e ∙ sym (class_here ss i words is k l))
+  pub class_test_there : (clumps k : ℕ) (c : Class) → k < length (statement_of i words).args → c ≡ class_in (row i.op).operands k →
+      is_of_class clumps c (sort_at (operands ss i words) k) ≡ is_of_class clumps (get_or (classes_of (row i.op).operands (length (operands ss i words))) k classes.Immediate) (sort_at (operands ss i words) k)
+  class_test_there clumps k c l e = ap (λ d. is_of_class clumps d (sort_at (operands ss i words) k)) (e ∙ sym (class_here ss i words is k l))

@@ -1,18 +1,19 @@
--- Each other operand of arrbuild goes into the first.
-use Rattle.std.proofs.Common.{true, sym, ap, ◌∙◌}
-use Rattle.std.specs.Prelude.{slice_index_or}
-use Rattle.nxt_types.specs.OperandRules.{asked, word_of, shape_of, sort_at, goes_into}
-use Rattle.nxt_code.specs.Inside.KnownShapes.{shape_by}
+-- The question's answer is what is asked.
+use Rattle.std.proofs.Common.{◌≡◌, ◌<◌, length, ◌∙◌, arith}
+use Rattle.std.proofs.lemmas.Result.{IfOk-weaker}
+use Rattle.nxt_types.specs.OperandRules.{shape_of, sort_at}
+use Rattle.nxt_operand_rules.specs.Questions.{answer}
 use Rattle.nxt_code.specs.OperandsSeen.{operands}
-use Rattle.nxt_code.proofs.Arguments.ByPosition.{others_go}
+use Rattle.nxt_code.proofs.Arguments.ByPosition.{operands_count}
 use Rattle.nxt_code.proofs.between.fits_others.Goals as goal
 
-pub returns-in_ok-goes_into-in-Arrbuild-clause-fits : goal.returns-in_ok-goes_into-in-Arrbuild-clause-fits
-returns-in_ok-goes_into-in-Arrbuild-clause-fits c =
+pub returns-clause-fits : goal.returns-clause-fits
+returns-clause-fits c =
     let ss = c.args.toc.now.shapes in
     let os = operands ss c.args.instr.now c.args.words.now in
-    c.in_ok-goes_into-in-Arrbuild.ensures.answer
-    ∙ ap (λ s. goes_into s (shape_by ss c.name_at-own.result)) (c.name_at-first.ensures ss)
-    ∙ ap (goes_into (shape_of (sort_at os 0))) (c.name_at-own.ensures ss)
-    ∙ sym (others_go ss c.args.instr.now c.args.words.now c.requires.whole c.args.k c.if-k-eq0.false c.requires.within (shape_of (sort_at os 0)))
-    ∙ sym (ap (λ op. slice_index_or (asked op (λ i. shape_of (sort_at os i)) (λ i. word_of (sort_at os i)) os) c.args.k true) c.in-Arrbuild.is)
+    let n = operands_count ss c.args.instr.now c.args.words.now c.requires.whole in
+    let l = c.requires.within in
+    let under : c.args.k < length os = omega (arith, n, l) in
+    IfOk-weaker c.answer.result (λ b. b ≡ answer c.asked-question.result (λ i. shape_of (sort_at os i)) c.args.k) (λ b. b ≡ _)
+    (λ b e. e ∙ c.asked-question.ensures os under c.seen_at-first.ensures c.seen_at-second.ensures c.seen_at-third.ensures)
+    c.answer.ensures.answer

@@ -1,0 +1,7 @@
+-- What is seen of a part tells it.
+use Rattle.nxt_types.specs.Shapes.{tree}
+use Rattle.nxt_types.specs.OperandRules.{Part}
+use Rattle.nxt_code.proofs.shapes.is_number.Goals as goal
+
+pub returns : goal.returns
+returns c = c.is_number.ensures (Part (tree c.args.shape.now)) c.seen.ensures
