@@ -3,6 +3,7 @@
 mod checks;
 mod events;
 mod faults;
+mod help;
 mod kinds;
 mod programs;
 mod worked;
