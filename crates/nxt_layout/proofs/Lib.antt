@@ -1,5 +1,4 @@
 mod Dope
-mod Swept
 mod Start
 mod Rules
 pub mod Laws

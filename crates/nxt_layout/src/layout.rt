@@ -11,18 +11,15 @@ ghost use Rattle.nxt_table.specs.Inside.Enclosing.{placed_entries as entries_pla
 ghost use Rattle.nxt_table.specs.Inside.Checks.{leaves_of as leaves_in};
 ghost use Rattle.nxt_table.specs.KeptTables.{KeepsTable};
 ghost use Rattle.nxt_layout.specs.LayoutRules.{rank, Broken};
-ghost use Rattle.nxt_layout.specs.Inside.RowPasses.{ground_of};
-ghost use Rattle.nxt_layout.specs.Inside.Nested.{AreNested, throughs};
-ghost use Rattle.nxt_layout.specs.Inside.Names.{AreAllNames};
+ghost use Rattle.nxt_layout.specs.Inside.RowPasses.{ground_of, AreTold};
 ghost use Rattle.nxt_layout.specs.declared.fault.LayoutFault.TheVariants.{NoMemory as no_memory};
 ghost use Rattle.nxt_layout.specs.Layouts.{IsLayout};
-ghost use Rattle.nxt_layout.specs.Inside.Passes.{IsFound, row_fault, rows_fault, pool_fault, ground_in, arrays_in, spells_array as has_array_entry, rows_in_file, size_of_start};
+ghost use Rattle.nxt_layout.specs.Inside.Passes.{IsFound, row_fault, pool_fault, ground_in, arrays_in, spells_array as has_array_entry, rows_in_file, size_of_start};
 
 use crate::dataspace::Dataspace;
 use crate::fault::LayoutFault;
-use crate::names::{Names, names_of};
-use crate::nested::NestedArray;
-use crate::rows::{arrays_of, check_rows, full_bytes, has_table, lists_of, strides_of};
+use crate::reach::Arrays;
+use crate::rows::{check_rows, found_arrays, full_bytes, has_table, lists_of, strides_of};
 use nxt_rxe::parts::{CodeSections, Parts};
 use nxt_table::enclosing::NestedEntry;
 use nxt_table::leaves::PlacedLeaf;
@@ -79,14 +76,8 @@ pub fn check_layout(alloc: Global, parts: Parts) -> Result<(Layout, CodeSections
         static_size: parts.header.static_size,
     };
     let arrays = check_arrays(alloc, &parts, &space, leaves.as_slice())?;
-    let footprint = check_pool(alloc, &parts, &space, &arrays)?;
-    let strides = strides_of(
-        alloc,
-        &space,
-        arrays.nested.as_slice(),
-        &arrays.names,
-        parts.toc.len(),
-    )?;
+    let footprint = check_pool(&parts, &space, &arrays)?;
+    let strides = strides_of(alloc, arrays.found.as_slice(), parts.toc.len())?;
     let shapes = shapes_of(alloc, &parts, placed.as_slice(), strides.as_slice())?;
     let file_rows = file_rows(&parts, &space);
     let Parts {
@@ -180,13 +171,6 @@ fn shapes_of(
     outside_shapes(alloc, placed, strides)
 }
 
-/// The arrays of a table, and what they name.
-#[derive(Drop)]
-struct Arrays {
-    nested: Vec<NestedArray>,
-    names: Names,
-}
-
 // The arrays of a file that keeps the rules on rows.
 fn check_arrays(
     alloc: Global,
@@ -198,42 +182,30 @@ fn check_arrays(
     requires places { All (λ l. l.place < 2 ^ 16) leaves.now }
     requires count { length parts.now.toc < 2 ^ 16 }
     requires space { ground_of space.now ≡ ground_in parts.now }
-    ensures nested { IfOk result (λ a. AreNested a.nested.items) }
-    ensures count { IfOk result (λ a. length a.nested.items ≤ 2 ^ 16) }
-    ensures found { IfOk result (λ a. throughs (ground_in parts.now) a.nested.items ≡ arrays_in parts.now) }
-    ensures names { IfOk result (λ a. AreAllNames (ground_in parts.now) (arrays_in parts.now) a.names) }
+    ensures told { IfOk result (AreTold (ground_in parts.now) (arrays_in parts.now)) }
+    ensures count { IfOk result (λ a. length a.found.items ≤ 2 ^ 16) }
     ensures kept { IfOk result (λ _. row_fault parts.now ≡ None) }
-    ensures rows { IfOk result (λ _. rows_fault (ground_in parts.now) (arrays_in parts.now) ≡ None) }
     ensures refused { IfErr result (IsFound (row_fault parts.now)) }
 {
     if spells_array(parts.toc.as_slice()) && !has_table(&parts.header, space) {
         return Err(LayoutFault::RowZero);
     }
-    let nested = arrays_of(alloc, leaves, parts.toc.len())?;
-    let names = names_of(alloc, space, nested.as_slice())?;
-    check_rows(alloc, space, nested.as_slice(), &names)?;
-    Ok(Arrays { nested, names })
+    let arrays = found_arrays(alloc, space, leaves, parts.toc.len())?;
+    check_rows(alloc, space, &arrays)?;
+    Ok(arrays)
 }
 
 // The bytes of the pool that the start needs.
-fn check_pool(
-    alloc: Global,
-    parts: &Parts,
-    space: &Dataspace,
-    arrays: &Arrays,
-) -> Result<u32, LayoutFault>
+fn check_pool(parts: &Parts, space: &Dataspace, arrays: &Arrays) -> Result<u32, LayoutFault>
     requires space { ground_of space.now ≡ ground_in parts.now }
-    requires nested { AreNested arrays.now.nested.items }
-    requires count { length arrays.now.nested.items ≤ 2 ^ 16 }
-    requires found { throughs (ground_in parts.now) arrays.now.nested.items ≡ arrays_in parts.now }
-    requires names { AreAllNames (ground_in parts.now) (arrays_in parts.now) arrays.now.names }
-    requires rows { rows_fault (ground_in parts.now) (arrays_in parts.now) ≡ None }
+    requires told { AreTold (ground_in parts.now) (arrays_in parts.now) arrays.now }
+    requires count { length arrays.now.found.items ≤ 2 ^ 16 }
     ensures found { IfOk result (λ size. (size ≡ size_of_start parts.now) × (pool_fault parts.now ≡ None)) }
-    ensures refused { IfErr result (IsFound (pool_fault parts.now)) }
+    ensures refused { IfErr result (λ fault. pool_fault parts.now ≡ Some fault) }
 {
     let rows = u64::from(file_rows(parts, space));
-    let lists = lists_of(alloc, space, arrays.nested.as_slice(), &arrays.names)?;
-    let bytes = full_bytes(space, arrays.names.marks.as_slice());
+    let lists = lists_of(arrays.found.as_slice());
+    let bytes = full_bytes(space, arrays.marks.as_slice());
     let size = round4(u64::from(parts.header.static_size))
         + round4(ROW_BYTES * rows.max(lists + 1))
         + bytes;

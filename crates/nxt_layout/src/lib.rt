@@ -2,26 +2,17 @@
 //! rules of the table are those of `nxt_table` ("LEGO MINDSTORMS NXT Executable File Specification", "Dope Vectors").
 #![tactic(auto)]
 
-mod bits;
-mod counters;
 mod dataspace;
-mod edges;
 pub mod fault;
-mod few;
+mod known;
 pub mod layout;
 mod marks;
 mod names;
-mod nested;
-mod reads;
-mod row_table;
+mod places;
+mod reach;
 mod rows;
-mod runs;
-mod set_bits;
-mod sites;
 mod spans;
-mod sweep;
-mod table_rows;
-mod turns;
+mod strides;
 
 pub use fault::LayoutFault;
 pub use layout::{Layout, check_layout};

@@ -1,5 +1,5 @@
--- The pass over a file's arrays finds the rows that are reached through each.
-use Rattle.std.proofs.Common.{◌≡◌, ℕ, ◌+◌, ◌<◌, Bool, true, false, cond, List, [], ◌∷◌, ◌++◌, filter, map, fold, max, Some, if◌then◌else◌, refl, sym, ap, ap₂, ◌∙◌, arith, append_assoc, append-nil, eq-eqb, ne_eqb}
+-- The pass over a file's arrays finds what is read through each, where each row is kept at most twice.
+use Rattle.std.proofs.Common.{◌≡◌, ℕ, ◌+◌, ◌<◌, Bool, true, false, cond, List, [], ◌∷◌, ◌++◌, map, fold, max, Some, if◌then◌else◌, refl, sym, ap, ap₂, ◌∙◌, arith, append_assoc, append-nil, eq-eqb, ne_eqb}
 use Rattle.std.proofs.lemmas.List.{map-append}
 use Rattle.std.proofs.lemmas.List.Elements.{filter-append}
 use Rattle.nxt_types.specs.Shapes.{Shape, Void, Number, Array, Cluster, Mutex, Members, no_members, member}
@@ -9,7 +9,7 @@ use Rattle.nxt_table.specs.declared.leaves.PlacedLeaf as flats
 use Rattle.nxt_table.specs.Leaves.{Leaf, AreShapes, leaves, end_of, extent, stands_in}
 use Rattle.nxt_table.specs.Dataspace.{dataspace}
 use Rattle.nxt_table.specs.Inside.LeafPasses.{same_array}
-use Rattle.nxt_layout.specs.Rows.{Ground, read_rows, names_row, numbers_at, element_places, is_array, arrays_of}
+use Rattle.nxt_layout.specs.Rows.{Ground, read_by, is_array, arrays_of}
 use Rattle.nxt_layout.specs.Inside.RowPasses.{Opened, Through, bare_ground, is_array_item, array_leaves, wider, extent_in, back_to, places_in, through_by, open_by, through_from}
 use Rattle.nxt_layout.specs.Start.{ground}
 use Rattle.nxt_facts.proofs.Each.{Each, each_then, each_join}
@@ -19,13 +19,13 @@ use Rattle.nxt_table.proofs.Laws.Leaves.{item_of_shape, flat, flat_end}
 use Rattle.nxt_layout.proofs.Start.LeafOrder.{leaves_are}
 use Rattle.nxt_layout.proofs.Dope.Counts.{arrays_among}
 use Rattle.nxt_table.proofs.Laws.StrideFree.{size_of_table}
-use Rattle.nxt_layout.proofs.Dope.Reached.{through_leaf}
+use Rattle.nxt_layout.proofs.Dope.Reached.{few_places, few_rows, few_through}
 
 -- ---- open arrays
 
 -- the array of entry a in the elements that are read through these
 abbrev pub opened : Ground → ℕ → List ℕ → Opened
-opened g a around = record { entry = a; read = read_rows g a (filter (names_row g) (numbers_at g a (element_places g around))) }
+opened g a around = record { entry = a; read = read_by g (extent g.leaves a) (few_rows g a around) }
 
 -- the open arrays in the element of the first of these
 abbrev pub chain : Ground → List ℕ → List Opened
@@ -35,7 +35,7 @@ chain g (a ∷ around) = opened g a around ∷ chain g around
 abbrev pub bare : Ground → Ground
 bare g = bare_ground g.memory.bytes g.memory.table g.static_size
 
-places_chain : (g : Ground) (arrays : List ℕ) → places_in (bare g) (chain g arrays) ≡ element_places g arrays
+places_chain : (g : Ground) (arrays : List ℕ) → places_in (bare g) (chain g arrays) ≡ few_places g arrays
 places_chain g [] = refl
 places_chain g (a ∷ around) = refl
 
@@ -77,7 +77,7 @@ step_by g ext l rest around =
     let t = through_by g ext l (places_in g around) in
     t ∷ through_from g ext (open_by g t ∷ around) rest
 
-one_array : (g : Ground) (ext : ℕ → ℕ) → ((a : ℕ) → ext a ≡ extent g.leaves a) → (n : ℕ) (s : Shape) (i : ℕ) (arrays : List ℕ) (more : List Opened) (rest : List flats.PlacedLeaf) → AreBehind arrays more → through_from (bare g) ext (more ++ chain g arrays) (flat (leaf_in g.memory.entries (Array n s) i arrays) ∷ rest) ≡ through_leaf g (leaf_in g.memory.entries (Array n s) i arrays) ∷ through_from (bare g) ext (chain g (i ∷ arrays)) rest
+one_array : (g : Ground) (ext : ℕ → ℕ) → ((a : ℕ) → ext a ≡ extent g.leaves a) → (n : ℕ) (s : Shape) (i : ℕ) (arrays : List ℕ) (more : List Opened) (rest : List flats.PlacedLeaf) → AreBehind arrays more → through_from (bare g) ext (more ++ chain g arrays) (flat (leaf_in g.memory.entries (Array n s) i arrays) ∷ rest) ≡ few_through g (leaf_in g.memory.entries (Array n s) i arrays) ∷ through_from (bare g) ext (chain g (i ∷ arrays)) rest
 one_array g ext same n s i arrays more rest h =
     let l = leaf_in g.memory.entries (Array n s) i arrays in
     let found = λ (bytes : ℕ) (places : List ℕ). record (through_by (bare g) ext (flat l) places) { bytes = bytes } in
@@ -93,7 +93,7 @@ one_array g ext same n s i arrays more rest h =
 pub record Finds (g : Ground) (ext : ℕ → ℕ) (arrays : List ℕ) (os : List Opened) (ls : List Leaf) (rest : List flats.PlacedLeaf) : Type 0 where
   pub more : List Opened
   pub behind : AreBehind arrays more
-  pub found : through_from (bare g) ext os (map flat (arrays_among ls) ++ rest) ≡ map (through_leaf g) (arrays_among ls) ++ through_from (bare g) ext (more ++ chain g arrays) rest
+  pub found : through_from (bare g) ext os (map flat (arrays_among ls) ++ rest) ≡ map (few_through g) (arrays_among ls) ++ through_from (bare g) ext (more ++ chain g arrays) rest
 
 finds_none : (g : Ground) (ext : ℕ → ℕ) (arrays : List ℕ) (more : List Opened) (ls : List Leaf) (rest : List flats.PlacedLeaf) → arrays_among ls ≡ [] → AreBehind arrays more → Finds g ext arrays (more ++ chain g arrays) ls rest
 finds_none g ext arrays more ls rest none h =
@@ -101,7 +101,7 @@ finds_none g ext arrays more ls rest none h =
       more = more;
       behind = h;
       found = ap (λ ks. through_from (bare g) ext (more ++ chain g arrays) (map flat ks ++ rest)) none
-          ∙ sym (ap (λ ks. map (through_leaf g) ks ++ through_from (bare g) ext (more ++ chain g arrays) rest) none);
+          ∙ sym (ap (λ ks. map (few_through g) ks ++ through_from (bare g) ext (more ++ chain g arrays) rest) none);
     }
 
 mutual
@@ -123,9 +123,9 @@ mutual
             (each_then (λ o. i < o.entry) (λ o. IsBehind arrays o.entry) (λ o less. behind_more arrays i o.entry b less) deeper.more deeper.behind)
             (b, tt);
         found = one_array g ext same n s i arrays more (map flat (arrays_among inside) ++ rest) h
-            ∙ ap (λ ts. through_leaf g l ∷ ts) deeper.found
+            ∙ ap (λ ts. few_through g l ∷ ts) deeper.found
             ∙ ap
-            (λ os. through_leaf g l ∷ (map (through_leaf g) (arrays_among inside) ++ through_from (bare g) ext os rest))
+            (λ os. few_through g l ∷ (map (few_through g) (arrays_among inside) ++ through_from (bare g) ext os rest))
             (sym (append_assoc deeper.more (opened g i arrays ∷ []) (chain g arrays)));
       }
   shape_found g ext same (Cluster ss) i arrays more rest b h =
@@ -154,16 +154,16 @@ mutual
             (through_from (bare g) ext (more ++ chain g arrays))
             (append_assoc (map flat (arrays_among here)) (map flat (arrays_among others)) rest)
             ∙ first.found
-            ∙ ap (λ ts. map (through_leaf g) (arrays_among here) ++ ts) second.found
+            ∙ ap (λ ts. map (few_through g) (arrays_among here) ++ ts) second.found
             ∙ sym (append_assoc
-            (map (through_leaf g) (arrays_among here))
-            (map (through_leaf g) (arrays_among others))
+            (map (few_through g) (arrays_among here))
+            (map (few_through g) (arrays_among others))
             (through_from (bare g) ext (second.more ++ chain g arrays) rest))
             ∙ sym (ap
             (λ ts. ts ++ through_from (bare g) ext (second.more ++ chain g arrays) rest)
-            (map-append (through_leaf g) (arrays_among here) (arrays_among others)))
+            (map-append (few_through g) (arrays_among here) (arrays_among others)))
             ∙ sym (ap
-            (λ ks. map (through_leaf g) ks ++ through_from (bare g) ext (second.more ++ chain g arrays) rest)
+            (λ ks. map (few_through g) ks ++ through_from (bare g) ext (second.more ++ chain g arrays) rest)
             both);
       }
 
@@ -204,7 +204,7 @@ flat_extent ls a = extent_from a 0 ls
 
 -- ---- the whole
 
-pub through_is : (p : Parts) (plain : Members) → AreShapes p.toc plain → through_from (bare_ground (dataspace p plain) p.header.dope_at p.header.static_size) (extent_in (map flat (leaves p.toc plain))) [] (array_leaves (map flat (leaves p.toc plain))) ≡ map (through_leaf (ground p plain)) (arrays_of (ground p plain))
+pub through_is : (p : Parts) (plain : Members) → AreShapes p.toc plain → through_from (bare_ground (dataspace p plain) p.header.dope_at p.header.static_size) (extent_in (map flat (leaves p.toc plain))) [] (array_leaves (map flat (leaves p.toc plain))) ≡ map (few_through (ground p plain)) (arrays_of (ground p plain))
 through_is p plain shapes =
     let g = ground p plain in
     let ls = leaves p.toc plain in
@@ -214,5 +214,5 @@ through_is p plain shapes =
     ap (through_from (bare g) ext []) (flat_arrays ls ∙ sym (append-nil (map flat (arrays_among ls))))
     ∙ ap (λ ks. through_from (bare g) ext [] (map flat (arrays_among ks) ++ [])) order
     ∙ all.found
-    ∙ append-nil (map (through_leaf g) (arrays_among (leaves_among p.toc plain 0 [])))
-    ∙ sym (ap (λ ks. map (through_leaf g) (arrays_among ks)) order)
+    ∙ append-nil (map (few_through g) (arrays_among (leaves_among p.toc plain 0 [])))
+    ∙ sym (ap (λ ks. map (few_through g) (arrays_among ks)) order)

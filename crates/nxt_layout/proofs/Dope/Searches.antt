@@ -1,5 +1,5 @@
 -- Searches and sums over the rows of a table, row by row.
-use Rattle.std.proofs.Common.{◌≡◌, ℕ, zero, suc, ◌+◌, ◌-◌, ◌<◌, ◌≤◌, Bool, true, false, ◌&&◌, not, List, [], ◌∷◌, ◌++◌, append_assoc, min, nat_lt, Option, Some, None, if◌then◌else◌, inl, inr, refl, sym, ap, ◌∙◌, arith, true≢false}
+use Rattle.std.proofs.Common.{◌≡◌, ℕ, zero, suc, ◌+◌, ◌-◌, ◌<◌, ◌≤◌, Bool, true, false, ◌&&◌, not, List, [], ◌∷◌, min, nat_lt, Option, Some, None, if◌then◌else◌, inl, inr, refl, sym, ap, ◌∙◌, arith, true≢false}
 use Rattle.std.specs.Prelude.{◌==◌, slice_index}
 use Rattle.std.proofs.lemmas.Bool.{cases_lt}
 use Rattle.std.proofs.lemmas.Bool.Decides.{nat_tests}
@@ -154,16 +154,3 @@ spans_rise g full r (suc n) = rise_one g r (spans_from g full (r + 1) n) (full r
 
 pub all_rise : (g : Ground) (full : ℕ → Bool) → SpansRise 0 (spans_of g full)
 all_rise g full = (omega arith, omega arith, spans_rise g full 1 (row_count g.memory - 1))
-
--- ---- spans, row by row
-
-pub span_more : (g : Ground) (full : ℕ → Bool) (r n : ℕ) (ss : List Span) → r < n → full r ≡ true → (ss ++ row_span g r ∷ []) ++ spans_from g full (r + 1) (n - (r + 1)) ≡ ss ++ spans_from g full r (n - r)
-span_more g full r n ss h e =
-    let rest = spans_from g full (r + 1) (n - (r + 1)) in
-    append_assoc ss (row_span g r ∷ []) rest
-    ∙ ap (λ xs. ss ++ xs) (sym (spans_next g full r n h ∙ ap (λ b. if b then row_span g r ∷ rest else rest) e))
-
-pub span_less : (g : Ground) (full : ℕ → Bool) (r n : ℕ) (ss : List Span) → r < n → full r ≡ false → ss ++ spans_from g full (r + 1) (n - (r + 1)) ≡ ss ++ spans_from g full r (n - r)
-span_less g full r n ss h e =
-    let rest = spans_from g full (r + 1) (n - (r + 1)) in
-    ap (λ xs. ss ++ xs) (sym (spans_next g full r n h ∙ ap (λ b. if b then row_span g r ∷ rest else rest) e))

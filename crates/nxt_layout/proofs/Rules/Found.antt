@@ -1,5 +1,5 @@
 -- What the passes find is broken, and an accepted file has its layout.
-use Rattle.std.proofs.Common.{◌≡◌, ℕ, ◌<◌, List, refl, sym, ap, ◌∙◌, subst, Bool, true, false, ◌⊎◌, inl, inr, ⊎_elim, Option, Some, None, ltb-true}
+use Rattle.std.proofs.Common.{map, ◌≡◌, ℕ, ◌<◌, List, refl, sym, ap, ◌∙◌, subst, Bool, true, false, ◌⊎◌, inl, inr, ⊎_elim, Option, Some, None, ltb-true}
 use Rattle.std.specs.Prelude.{nat_lt, slice_index, IsTrue, if◌then◌else◌}
 use Rattle.nxt_types.specs.Refusals.{passes, comes_first, IsRefusal, IsAccepted}
 use Rattle.nxt_types.specs.Shapes.{Members}
@@ -11,14 +11,13 @@ use Rattle.nxt_table.specs.declared.fault.TableFault.TheVariants as table
 use Rattle.nxt_table.specs.Leaves.{leaf_of, AreShapes}
 use Rattle.nxt_table.specs.Strides.{all_with_strides}
 use Rattle.nxt_table.specs.TableRules as table_rules
-use Rattle.nxt_table.specs.TableRules.{OfShapes}
 use Rattle.nxt_table.specs.Inside.Checks.{bytes_of_parts}
 use Rattle.nxt_table.specs.KeptTables.{KeepsTable}
 use Rattle.nxt_table.proofs.Laws.Passes.{option_or, by_pass, nothing}
 use Rattle.nxt_layout.specs.declared.fault.LayoutFault.{LayoutFault}
 use Rattle.nxt_layout.specs.declared.fault.LayoutFault.TheVariants.{Table, RowZero, RowIndex, RowShared, Stride, RowPlace, RowOverlap, PoolPassed, NoMemory}
 use Rattle.nxt_layout.specs.Rows.{Ground, arrays_of}
-use Rattle.nxt_layout.specs.Inside.RowPasses.{HaveStrides}
+use Rattle.nxt_layout.specs.Inside.RowPasses.{told, HaveStrides}
 use Rattle.nxt_layout.specs.Start.{ground, stride_of, StartsAs}
 use Rattle.nxt_layout.specs.LayoutRules.{Broken, rank, of_table, lacks_table, names_no_row, is_shared, is_missstrided, is_row_misplaced, rows_share_a_byte}
 use Rattle.nxt_layout.specs.Layouts.{layout_of}
@@ -122,7 +121,7 @@ accepted p h r e g b =
     let s : None ≡ Some x.fault = sym (past_rows_none p r ∙ e) ∙ x.found in cc
 
 -- the layout that the passes give is the file's
-pub laid_out : (p : Parts) (h : KeepsTable p) → row_fault p ≡ None → (strides : List ℕ) → HaveStrides (ground_in p) strides (arrays_in p) →
+pub laid_out : (p : Parts) (h : KeepsTable p) → row_fault p ≡ None → (strides : List ℕ) → HaveStrides strides (map (told (ground_in p)) (arrays_in p)) →
     StartsAs p (all_with_strides (stride_of (ground p h.shapes)) 0 h.shapes) (group_of (values_among (ground p h.shapes) h.shapes 0 0))
     × (record { entries = p.toc; shapes = all_with_strides (slice_index strides) 0 h.shapes; dataspace = bytes_of_parts p; static_size = p.header.static_size; dope_at = p.header.dope_at; rows = rows_in_file p; footprint = size_of_start p }
     ≡ layout_of p (all_with_strides (stride_of (ground p h.shapes)) 0 h.shapes) (group_of (values_among (ground p h.shapes) h.shapes 0 0)))

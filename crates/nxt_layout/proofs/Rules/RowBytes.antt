@@ -1,69 +1,83 @@
 -- The passes over the strides, the places and the overlaps of rows find the first place where their rule is broken.
-use Rattle.std.proofs.Common.{◌≡◌, ℕ, zero, suc, ◌+◌, ◌-◌, ◌*◌, ◌≤◌, ◌<◌, Bool, true, false, cond, ◌&&◌, ◌||◌, not, ◌==◌, nat_lt, List, [], ◌∷◌, map, flat_map, Option, Some, if◌then◌else◌, inl, inr, refl, sym, ap, ap₂, ◌∙◌, subst, arith, true≢false, lt-ltb, ltb-true, eq-eqb, eqb-true, ne_eqb}
+use Rattle.std.proofs.Common.{◌≡◌, ℕ, zero, suc, ◌+◌, ◌-◌, ◌*◌, ◌≤◌, ◌<◌, Bool, true, false, cond, ◌&&◌, ◌||◌, not, ◌==◌, nat_lt, nat_le, List, [], ◌∷◌, map, flat_map, Option, Some, if◌then◌else◌, inl, inr, refl, sym, ap, ap₂, ◌∙◌, subst, arith, true≢false, lt-ltb, ltb-true, eq-eqb, eqb-true, ne_eqb}
 use Rattle.std.specs.List.{list_any}
 use Rattle.std.proofs.lemmas.Bool.{and_parts, and_from, or_left, or_right, cases_lt}
 use Rattle.std.proofs.lemmas.List.Folds.{list_any-append}
+use Rattle.std.proofs.lemmas.Map.Views.{any-filter_same}
+use Rattle.std.proofs.Math.Bool.{and_comm}
 use Rattle.nxt_model.specs.Reading.{row_count}
 use Rattle.nxt_layout.specs.declared.spans.Span.{Span}
-use Rattle.nxt_table.specs.Leaves.{Leaf}
-use Rattle.nxt_layout.specs.Rows.{Ground, row, row_end, is_placed, is_strided, reached_through, arrays_of, is_full_in, is_full}
-use Rattle.nxt_layout.specs.Inside.RowPasses.{all_rows, first_below, is_misstrided_in, is_misstrided_by, spans_share, first_spans, table_span, row_span, spans_from, spans_of}
+use Rattle.nxt_table.specs.Leaves.{Leaf, extent}
+use Rattle.nxt_layout.specs.Rows.{Ground, row, row_end, has_elements, is_placed, is_strided, is_strided_by, reached_through, arrays_of, is_full_in, is_full}
+use Rattle.nxt_layout.specs.Inside.RowPasses.{all_rows, first_below, least, misstrided_in, spans_share, first_spans, table_span, row_span, spans_from, spans_of}
 use Rattle.nxt_layout.specs.LayoutRules.{is_missstrided, is_row_misplaced, place_of_row, end_of_row, rows_share_a_byte}
 use Rattle.nxt_facts.proofs.Sums.{is_it}
-use Rattle.nxt_layout.proofs.Dope.Reached.{through_leaf}
-use Rattle.nxt_layout.proofs.Dope.Searches.{IsFirst, first_alike, first_in, spans_same, all_rise}
+use Rattle.nxt_layout.proofs.Dope.NoneOneMany.{AreAlike, alike_any, alike_all}
+use Rattle.nxt_layout.proofs.Dope.Reached.{few_rows, few_through, leaf_rows_alike}
+use Rattle.nxt_layout.proofs.Dope.Strides.{least_among, least_found}
+use Rattle.nxt_layout.proofs.Dope.Searches.{IsFirst, first_alike, first_in, spans_same, all_rise, is_first}
 use Rattle.nxt_layout.proofs.Dope.Spans.{span_of}
 use Rattle.nxt_layout.proofs.Dope.FirstOverlap.{SpansShare, share_from, first_spans_pass, first_spans_least, no_spans_pass}
-use Rattle.nxt_layout.proofs.Rules.Rows.{IsFirstPair, found, reached_row, full_row, full_same}
+use Rattle.nxt_layout.proofs.Rules.Rows.{IsFirstPair, few, full_row, full_same}
 
 -- ---- rows whose stride isn't their entry's
 
 abbrev pub misstrided_at : Ground → Option ℕ
-misstrided_at g = first_below (is_misstrided_by g (found g)) 0 (row_count g.memory)
+misstrided_at g = least (flat_map (misstrided_in g) (few g))
 
-misstrided_same : (g : Ground) (r : ℕ) (ls : List Leaf) → is_misstrided_by g (map (through_leaf g) ls) r ≡ list_any (λ l. let rows = reached_through g l in list_any (is_it r) rows && not (is_strided g l.entry rows r)) ls
-misstrided_same g r [] = refl
-misstrided_same g r (l ∷ ls) =
-    ap (λ b. is_misstrided_in g r (through_leaf g l) || b) (misstrided_same g r ls)
+strided_alike : (g : Ground) (bytes : ℕ) (xs ys : List ℕ) → AreAlike xs ys → (r : ℕ) → is_strided_by g bytes xs r ≡ is_strided_by g bytes ys r
+strided_alike g bytes xs ys h r =
+    ap
+    (λ b. not (has_elements g r) || (nat_le bytes (row g r).stride && b))
+    (alike_all (λ q. not (nat_lt q r && has_elements g q) || ((row g q).stride == (row g r).stride)) xs ys h)
 
--- such a row is reached
-misstrided_row : (g : Ground) (r : ℕ) (ls : List Leaf) → is_misstrided_by g (map (through_leaf g) ls) r ≡ true → list_any (is_it r) (flat_map (reached_through g) ls) ≡ true
-misstrided_row g r [] h = h
-misstrided_row g r (l ∷ ls) h =
-    list_any-append (is_it r) (reached_through g l) (flat_map (reached_through g) ls)
-    ∙ at (is_misstrided_in g r (through_leaf g l)) refl (misstrided_row g r ls)
-  where
-    at : (b : Bool) → is_misstrided_in g r (through_leaf g l) ≡ b → (is_misstrided_by g (map (through_leaf g) ls) r ≡ true → list_any (is_it r) (flat_map (reached_through g) ls) ≡ true) → (list_any (is_it r) (reached_through g l) || list_any (is_it r) (flat_map (reached_through g) ls)) ≡ true
-    at true e ih =
-        or_left
-        (list_any (is_it r) (reached_through g l))
-        (list_any (is_it r) (flat_map (reached_through g) ls))
-        (and_parts (list_any (is_it r) (reached_through g l)) (not (is_strided g l.entry (reached_through g l) r)) e).0
-    at false e ih =
-        or_right
-        (list_any (is_it r) (reached_through g l))
-        (list_any (is_it r) (flat_map (reached_through g) ls))
-        (ih (sym (ap (λ b. b || is_misstrided_by g (map (through_leaf g) ls) r) e) ∙ h))
+-- of a leaf
+abbrev is_odd_at : Ground → ℕ → Leaf → Bool
+is_odd_at g r l =
+    list_any (is_it r) (reached_through g l) && not (is_strided g l.entry (reached_through g l) r)
+
+odd_through : (g : Ground) (r : ℕ) (l : Leaf) → list_any (is_it r) (misstrided_in g (few_through g l)) ≡ is_odd_at g r l
+odd_through g r l =
+    let bytes = extent g.leaves l.entry in
+    let rows = few_rows g l.entry l.arrays in
+    let alike = leaf_rows_alike g l in
+    any-filter_same
+    (is_it r)
+    (λ q. not (is_strided_by g bytes rows q))
+    (not (is_strided_by g bytes rows r))
+    (λ q e. ap (λ k. not (is_strided_by g bytes rows k)) (eqb-true q r e))
+    rows
+    ∙ ap₂
+    (λ (a b : Bool). not a && b)
+    (strided_alike g bytes rows (reached_through g l) alike r)
+    (alike_any (is_it r) rows (reached_through g l) alike)
+    ∙ and_comm (not (is_strided g l.entry (reached_through g l) r)) (list_any (is_it r) (reached_through g l))
+
+odd_among : (g : Ground) (r : ℕ) (ls : List Leaf) → list_any (is_it r) (flat_map (misstrided_in g) (map (few_through g) ls)) ≡ list_any (is_odd_at g r) ls
+odd_among g r [] = refl
+odd_among g r (l ∷ ls) =
+    list_any-append (is_it r) (misstrided_in g (few_through g l)) (flat_map (misstrided_in g) (map (few_through g) ls))
+    ∙ ap₂ (λ (a b : Bool). a || b) (odd_through g r l) (odd_among g r ls)
 
 pub misstrided_first : (g : Ground) → IsFirst (is_missstrided g) (misstrided_at g)
 misstrided_first g =
-    let test = is_misstrided_by g (found g) in
-    first_alike
-    test
+    let rows = flat_map (misstrided_in g) (few g) in
+    let same : (r : ℕ) → list_any (is_it r) rows ≡ is_missstrided g r = λ r. odd_among g r (arrays_of g) in
+    is_first
     (is_missstrided g)
     (misstrided_at g)
-    (λ r. misstrided_same g r (arrays_of g))
-    (first_in test (row_count g.memory) (λ v h. reached_row g v (misstrided_row g v (arrays_of g) h)))
+    (λ w e. sym (same w) ∙ least_among rows w e)
+    (λ v h. least_found rows v (same v ∙ h))
 
 -- ---- rows that are misplaced
 
 abbrev pub misplaced_at : Ground → Option ℕ
 misplaced_at g =
-    first_below (λ r. is_full_in g (all_rows (found g)) r && not (is_placed g r)) 0 (row_count g.memory)
+    first_below (λ r. is_full_in g (all_rows (few g)) r && not (is_placed g r)) 0 (row_count g.memory)
 
 pub misplaced_first : (g : Ground) → IsFirst (is_row_misplaced g) (misplaced_at g)
 misplaced_first g =
-    let test = λ (r : ℕ). is_full_in g (all_rows (found g)) r && not (is_placed g r) in
+    let test = λ (r : ℕ). is_full_in g (all_rows (few g)) r && not (is_placed g r) in
     let same : (r : ℕ) → test r ≡ is_row_misplaced g r = λ r. ap (λ b. b && not (is_placed g r)) (full_same g r) in
     first_alike
     test
@@ -78,7 +92,7 @@ misplaced_first g =
 -- ---- rows that share a byte
 
 abbrev pub sharing_at : Ground → Option (ℕ × ℕ)
-sharing_at g = first_spans (spans_of g (is_full_in g (all_rows (found g))))
+sharing_at g = first_spans (spans_of g (is_full_in g (all_rows (few g))))
 
 -- those of the rows that are reached and have elements, and the table's
 abbrev full_spans : Ground → List Span
@@ -88,7 +102,7 @@ sharing_full : (g : Ground) → sharing_at g ≡ first_spans (full_spans g)
 sharing_full g =
     ap
     (λ ss. first_spans (table_span g ∷ ss))
-    (spans_same g (is_full_in g (all_rows (found g))) (is_full g) 1 (row_count g.memory - 1) (λ r least less. full_same g r))
+    (spans_same g (is_full_in g (all_rows (few g))) (is_full g) 1 (row_count g.memory - 1) (λ r least less. full_same g r))
 
 -- a full row has its span
 span_there : (g : Ground) (full : ℕ → Bool) (r n q : ℕ) → r ≤ q → q < r + n → full q ≡ true → span_of (spans_from g full r n) q ≡ Some (row_span g q)

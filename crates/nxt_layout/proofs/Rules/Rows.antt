@@ -25,7 +25,8 @@ use Rattle.nxt_table.proofs.Laws.Leaves.{Rising, table_rises, table_leaves, firs
 use Rattle.nxt_layout.proofs.Start.LeafOrder.{rising_filter}
 use Rattle.nxt_table.proofs.Laws.Dataspace.{same_dataspace}
 use Rattle.nxt_layout.proofs.Start.SizeByRows.{reached_below}
-use Rattle.nxt_layout.proofs.Dope.Reached.{through_leaf, rows_of_leaves}
+use Rattle.nxt_layout.proofs.Dope.NoneOneMany.{alike_any, alike_two}
+use Rattle.nxt_layout.proofs.Dope.Reached.{few_through, all_rows_alike, beyond_same}
 use Rattle.nxt_layout.proofs.Dope.Scanned.{bare, through_is}
 use Rattle.nxt_layout.proofs.Dope.Strides.{each_among}
 use Rattle.nxt_layout.proofs.Dope.Searches.{IsFirst, first_alike, first_in}
@@ -75,15 +76,15 @@ pub record IsFirstPair (test : ℕ → ℕ → Bool) (o : Option (ℕ × ℕ)) :
 
 -- ---- what the passes go over
 
--- what is found through the arrays
-abbrev pub found : Ground → List Through
-found g = map (through_leaf g) (arrays_of g)
+-- what is found through the arrays, where each row is kept at most twice
+abbrev pub few : Ground → List Through
+few g = map (few_through g) (arrays_of g)
 
 pub same_ground : (p : Parts) (plain : Members) → AreShapes p.toc plain → ground_in p ≡ bare (ground p plain)
 same_ground p plain shapes =
     ap (λ bytes. bare_ground bytes p.header.dope_at p.header.static_size) (same_dataspace p plain shapes)
 
-pub same_arrays : (p : Parts) (plain : Members) → AreShapes p.toc plain → arrays_in p ≡ found (ground p plain)
+pub same_arrays : (p : Parts) (plain : Members) → AreShapes p.toc plain → arrays_in p ≡ few (ground p plain)
 same_arrays p plain shapes =
     ap₂
     (λ (g : Ground) (ls : List flats.PlacedLeaf). through_from g (extent_in ls) [] (array_leaves ls))
@@ -98,7 +99,7 @@ bare_table h g = refl
 pub bare_rows : (g : Ground) (ts : List Through) → rows_fault (bare g) ts ≡ rows_fault g ts
 bare_rows g ts = refl
 
-pub rows_read : (p : Parts) (plain : Members) → AreShapes p.toc plain → row_fault p ≡ (if lacks_table p plain then Some RowZero else rows_fault (ground p plain) (found (ground p plain)))
+pub rows_read : (p : Parts) (plain : Members) → AreShapes p.toc plain → row_fault p ≡ (if lacks_table p plain then Some RowZero else rows_fault (ground p plain) (few (ground p plain)))
 rows_read p plain shapes =
     let g = ground p plain in
     ap
@@ -111,7 +112,7 @@ rows_read p plain shapes =
     ∙ ap₂
     (λ (b : Bool) (o : Option LayoutFault). if some_list plain && not b then Some RowZero else o)
     (bare_table p.header g)
-    (bare_rows g (found g))
+    (bare_rows g (few g))
 
 pub arrays_rise : (p : Parts) (plain : Members) → Rising 0 (arrays_of (ground p plain))
 arrays_rise p plain = rising_filter (λ l. is_array l.shape) 0 (leaves p.toc plain) (table_rises p.toc plain)
@@ -124,22 +125,27 @@ reached_row g r h = each_among (λ q. q < row_count g.memory) (reached g) r (rea
 pub full_row : (g : Ground) (r : ℕ) → is_full g r ≡ true → r < row_count g.memory
 full_row g r h = reached_row g r (and_parts (list_any (is_it r) (reached g)) (has_elements g r) h).0
 
-pub full_same : (g : Ground) (r : ℕ) → is_full_in g (all_rows (found g)) r ≡ is_full g r
+pub full_same : (g : Ground) (r : ℕ) → is_full_in g (all_rows (few g)) r ≡ is_full g r
 full_same g r =
-    ap (λ rows. list_any (is_it r) rows && has_elements g r) (rows_of_leaves g (arrays_of g))
+    ap
+    (λ b. b && has_elements g r)
+    (alike_any (is_it r) (all_rows (few g)) (reached g) (all_rows_alike g (arrays_of g)))
 
 -- ---- numbers past the table's rows
 
 abbrev pub beyond_at : Ground → Option ℕ
-beyond_at g = first_beyond (found g)
+beyond_at g = first_beyond (few g)
 
-pub beyond_entry : (g : Ground) (ls : List Leaf) → first_beyond (map (through_leaf g) ls) ≡ first_entry (names_no_row g) ls
+pub beyond_entry : (g : Ground) (ls : List Leaf) → first_beyond (map (few_through g) ls) ≡ first_entry (names_no_row g) ls
 beyond_entry g [] = refl
 beyond_entry g (l ∷ ls) =
-    at (names_no_row g l) (beyond_entry g ls)
+    ap
+    (λ b. option_map (λ (t : Through). t.entry) (cond b (Some (few_through g l)) (find (λ t. t.beyond) (map (few_through g) ls))))
+    (beyond_same g l)
+    ∙ at (names_no_row g l) (beyond_entry g ls)
   where
-    at : (b : Bool) → first_beyond (map (through_leaf g) ls) ≡ first_entry (names_no_row g) ls →
-        option_map (λ (t : Through). t.entry) (cond b (Some (through_leaf g l)) (find (λ t. t.beyond) (map (through_leaf g) ls))) ≡ option_map (λ (k : Leaf). k.entry) (cond b (Some l) (find (names_no_row g) ls))
+    at : (b : Bool) → first_beyond (map (few_through g) ls) ≡ first_entry (names_no_row g) ls →
+        option_map (λ (t : Through). t.entry) (cond b (Some (few_through g l)) (find (λ t. t.beyond) (map (few_through g) ls))) ≡ option_map (λ (k : Leaf). k.entry) (cond b (Some l) (find (names_no_row g) ls))
     at true h = refl
     at false h = h
 
@@ -156,7 +162,7 @@ beyond_first g rise =
 -- ---- rows that two lists name
 
 abbrev pub shared_at : Ground → Option ℕ
-shared_at g = first_below (λ r. nat_lt 1 (times r (all_rows (found g)))) 0 (row_count g.memory)
+shared_at g = first_below (λ r. nat_lt 1 (times r (all_rows (few g)))) 0 (row_count g.memory)
 
 pub two_are_some : (n : ℕ) → nat_lt 1 n ≡ true → nat_lt 0 n ≡ true
 two_are_some n h = lt-ltb 0 n (omega (arith, ltb-true 1 n h))
@@ -168,7 +174,7 @@ shared_row g r h =
 
 pub shared_first : (g : Ground) → IsFirst (is_shared g) (shared_at g)
 shared_first g =
-    let test = λ (r : ℕ). nat_lt 1 (times r (all_rows (found g))) in
+    let test = λ (r : ℕ). nat_lt 1 (times r (all_rows (few g))) in
     let same : (r : ℕ) → test r ≡ is_shared g r =
-    λ r. ap (λ rows. nat_lt 1 (times r rows)) (rows_of_leaves g (arrays_of g)) in
+    λ r. alike_two (is_it r) (all_rows (few g)) (reached g) (all_rows_alike g (arrays_of g)) in
     first_alike test (is_shared g) (shared_at g) same (first_in test (row_count g.memory) (λ v h. shared_row g v (sym (same v) ∙ h)))

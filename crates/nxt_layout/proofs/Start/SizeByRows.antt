@@ -1,5 +1,5 @@
 -- How many bytes the variables take at the start, by array and by row.
-use Rattle.std.proofs.Common.{◌≡◌, ℕ, ◌+◌, ◌*◌, ◌<◌, Bool, true, false, cond, ◌&&◌, nat_lt, List, [], ◌∷◌, flat_map, max, sum_by, length, if◌then◌else◌, refl, sym, ap, ap₂, ◌∙◌, arith, length-append, ltb-true}
+use Rattle.std.proofs.Common.{◌≡◌, ℕ, ◌+◌, ◌*◌, ◌<◌, Bool, true, false, cond, ◌&&◌, nat_lt, [], max, sum_by, length, if◌then◌else◌, refl, sym, ap, ap₂, ◌∙◌, ltb-true}
 use Rattle.std.specs.List.{list_any}
 use Rattle.std.proofs.lemmas.Bool.{and_parts}
 use Rattle.std.proofs.lemmas.List.{length-map}
@@ -8,7 +8,7 @@ use Rattle.nxt_rxe.specs.declared.parts.Parts.{Parts}
 use Rattle.nxt_types.specs.Pool.{round4}
 use Rattle.nxt_model.specs.Reading.{row_count}
 use Rattle.nxt_table.specs.Leaves.{Leaf, AreShapes, leaves}
-use Rattle.nxt_layout.specs.Rows.{Ground, row, has_elements, names_row, elements_of, element_places, numbers_of, reached_through, reached, arrays_of, is_full}
+use Rattle.nxt_layout.specs.Rows.{Ground, row, has_elements, names_row, element_places, numbers_of, reached_through, reached, arrays_of, is_full}
 use Rattle.nxt_layout.specs.Start.{ground, file_rows}
 use Rattle.nxt_layout.specs.Inside.RowPasses.{row_bytes}
 use Rattle.nxt_facts.specs.Sums.{sum_below}
@@ -16,7 +16,6 @@ use Rattle.nxt_facts.proofs.Each.{Each, each_from, each_flat, each_filter}
 use Rattle.nxt_facts.proofs.Sums.{total, total_is, total_one, total_flat, total_every, is_it}
 use Rattle.nxt_facts.proofs.SumsBelow.{sums_same, once_below}
 use Rattle.nxt_layout.proofs.Start.ValueAt.{number_at}
-use Rattle.nxt_facts.proofs.Places.{length-places}
 use Rattle.nxt_layout.proofs.Start.Leaves.{leaves_among}
 use Rattle.nxt_layout.proofs.Start.LeafOrder.{leaves_are}
 use Rattle.nxt_table.proofs.Laws.StrideFree.{size_of_table}
@@ -35,16 +34,6 @@ numbers_by_array g =
 -- an entry stands once in each element around it
 pub numbers_in_places : (g : Ground) (l : Leaf) → length (numbers_of g l) ≡ length (element_places g l.arrays)
 numbers_in_places g l = length-map (element_places g l.arrays) (number_at g l.entry)
-
-elements_counted : (g : Ground) (rows : List ℕ) → length (flat_map (elements_of g) rows) ≡ total (λ r. (row g r).count) rows
-elements_counted g [] = refl
-elements_counted g (r ∷ rows) =
-    omega (
-      arith,
-      length-append (elements_of g r) (flat_map (elements_of g) rows),
-      length-places (row g r).place (row g r).stride (row g r).count,
-      elements_counted g rows,
-    )
 
 -- ---- and by row of the table
 

@@ -1,5 +1,5 @@
 -- The passes that find the first fault of the rows and of the pool.
-use Rattle.std.specs.Prelude.{◌≡◌, ℕ, ◌+◌, ◌*◌, Bool, ◌&&◌, not, ◌==◌, nat_lt, max, List, [], ◌⊎◌, Option, Some, None, if◌then◌else◌}
+use Rattle.std.specs.Prelude.{◌≡◌, ℕ, ◌+◌, ◌*◌, Bool, ◌&&◌, not, ◌==◌, nat_lt, max, List, [], flat_map, ◌⊎◌, Option, Some, None, if◌then◌else◌}
 use Rattle.std.specs.List.{list_any}
 use Rattle.nxt_types.specs.declared.shape.TocEntry.{TocEntry}
 use Rattle.nxt_types.specs.Pool.{round4, pool_size}
@@ -9,7 +9,7 @@ use Rattle.nxt_table.specs.Inside.Checks.{fault_or, leaves_of, bytes_of_parts}
 use Rattle.nxt_layout.specs.declared.fault.LayoutFault.{LayoutFault}
 use Rattle.nxt_layout.specs.declared.fault.LayoutFault.TheVariants.{RowZero, RowIndex, RowShared, Stride, RowPlace, RowOverlap, PoolPassed, NoMemory}
 use Rattle.nxt_layout.specs.Rows.{Ground, is_placed, is_full_in}
-use Rattle.nxt_layout.specs.Inside.RowPasses.{Through, bare_ground, extent_in, array_leaves, through_from, all_rows, list_count, times, first_beyond, first_below, is_misstrided_by, full_bytes, first_spans, spans_of}
+use Rattle.nxt_layout.specs.Inside.RowPasses.{Through, bare_ground, extent_in, array_leaves, through_from, all_rows, list_count, times, least, first_beyond, first_below, misstrided_in, full_bytes, first_spans, spans_of}
 use Rattle.nxt_layout.specs.LayoutRules.{has_table}
 
 -- ---- the passes in their order
@@ -45,7 +45,7 @@ rows_fault g ts =
     (first_below (λ r. nat_lt 1 (times r rows)) 0 (row_count g.memory))
     (fault_or
     Stride
-    (first_below (is_misstrided_by g ts) 0 (row_count g.memory))
+    (least (flat_map (misstrided_in g) ts))
     (fault_or
     RowPlace
     (first_below (λ r. is_full_in g rows r && not (is_placed g r)) 0 (row_count g.memory))

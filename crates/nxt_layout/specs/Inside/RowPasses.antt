@@ -1,17 +1,22 @@
 -- What the passes over a file's rows compute.
-use Rattle.std.specs.Prelude.{ℕ, zero, suc, ◌+◌, ◌-◌, ◌*◌, ◌<◌, ◌≤◌, ◌≡◌, min, max, Bool, true, false, ◌&&◌, ◌||◌, not, ◌==◌, nat_lt, nat_le, List, [], ◌∷◌, map, filter, find, fold, flat_map, length, count_by, slice_index, sum_by, option_map, Option, Some, None, if◌then◌else◌}
+use Rattle.std.specs.Prelude.{ℕ, zero, suc, ◌+◌, ◌-◌, ◌*◌, ◌<◌, ◌≤◌, ◌≡◌, min, max, Bool, true, false, ◌&&◌, ◌||◌, not, ◌==◌, nat_lt, nat_le, List, [], ◌∷◌, ◌++◌, map, filter, find, fold, flat_map, length, replicate, count_by, slice_index, sum_by, option_map, All, ◌^◌, Option, Some, None, if◌then◌else◌}
 use Rattle.std.specs.List.{list_any}
 use Rattle.nxt_facts.specs.Sums.{sum_below}
 use Rattle.nxt_types.specs.Bytes.{u16_at}
 use Rattle.nxt_types.specs.Pool.{round4}
+use Rattle.std.specs.Rc.{rc_slice_items}
 use Rattle.nxt_model.specs.Reading.{row_count}
 use Rattle.nxt_table.specs.declared.item.Item.{Item}
 use Rattle.nxt_table.specs.declared.item.Item.TheVariants.{Array}
 use Rattle.nxt_table.specs.declared.leaves.PlacedLeaf.{PlacedLeaf}
 use Rattle.nxt_layout.specs.declared.dataspace.Dataspace.{Dataspace}
+use Rattle.nxt_layout.specs.declared.reach.ArrayRows.{ArrayRows}
+use Rattle.nxt_layout.specs.declared.reach.OpenArray.{OpenArray}
+use Rattle.nxt_layout.specs.declared.reach.Arrays.{Arrays}
 use Rattle.nxt_layout.specs.declared.spans.Span.{Span}
 use Rattle.nxt_table.specs.Inside.LeafPasses.{leaf_end, pair_or, same_array}
-use Rattle.nxt_layout.specs.Rows.{Ground, row, row_end, has_elements, stride_or, is_strided_by, read_by, elements_of, names_row, is_beyond}
+use Rattle.nxt_table.specs.Inside.Owners.{least_of}
+use Rattle.nxt_layout.specs.Rows.{Ground, row, row_end, has_elements, stride_or, is_strided_by, read_by, elements_of, is_beyond}
 
 -- the bytes of a dataspace alone
 abbrev pub bare_ground : List ℕ → ℕ → ℕ → Ground
@@ -40,9 +45,29 @@ extent_in ls a = fold (wider a) 0 ls
 abbrev pub times : ℕ → List ℕ → ℕ
 times r rows = count_by (λ q. q == r) rows
 
--- the rows that numbers name
+abbrev pub bit_of : Bool → ℕ
+bit_of b = if b then 1 else 0
+
+-- how many of these numbers pass a test
+abbrev pub tallied : List ℕ → (ℕ → Bool) → ℕ
+tallied numbers test = count_by test numbers
+
+-- none, one or many
+abbrev pub few : ℕ → ℕ
+few n = min 2 n
+
+-- so many of each row below n
+abbrev pub listed : (ℕ → ℕ) → ℕ → List ℕ
+listed w zero = []
+listed w (suc n) = listed w n ++ replicate (w n) n
+
+-- how often a row is named, none, one or many, where count tells how many numbers pass a test. 0 is an empty list
+abbrev pub names_by : ((ℕ → Bool) → ℕ) → ℕ → ℕ
+names_by count r = if r == 0 then 0 else few (count (λ q. q == r))
+
+-- the rows that numbers name in the order of number, each at most twice
 abbrev pub rows_of : Ground → List ℕ → List ℕ
-rows_of g numbers = filter (names_row g) numbers
+rows_of g numbers = listed (names_by (tallied numbers)) (row_count g.memory)
 
 -- the numbers at this place in elements
 abbrev pub numbers_in : Ground → ℕ → List ℕ → List ℕ
@@ -55,8 +80,8 @@ pub record Opened : Type 0 where
   pub entry : ℕ
   pub read : List ℕ
 
--- what is found through an array's entry: the bytes of its element, the rows that its lists name, how many lists there are,
--- and whether a number is past the table's rows
+-- what is found through an array's entry: the bytes of its element, the rows that its lists name, each at most twice, how
+-- many lists there are, and whether a number is past the table's rows
 pub record Through : Type 0 where
   pub entry : ℕ
   pub bytes : ℕ
@@ -81,22 +106,17 @@ abbrev pub places_in : Ground → List Opened → List ℕ
 places_in g [] = 0 ∷ []
 places_in g (o ∷ os) = flat_map (elements_of g) o.read
 
--- through the array of an entry, whose element takes so many bytes and whose number stands at a place in the elements that
--- stand at these places
-abbrev pub found_by : Ground → ℕ → ℕ → ℕ → List ℕ → Through
-found_by g entry bytes place bases =
-    let numbers = numbers_in g place bases in
+-- ext gives the bytes of an array's element
+abbrev pub through_by : Ground → (ℕ → ℕ) → PlacedLeaf → List ℕ → Through
+through_by g ext l bases =
+    let numbers = numbers_in g l.place bases in
     record {
-      entry = entry;
-      bytes = bytes;
+      entry = l.entry;
+      bytes = ext l.entry;
       rows = rows_of g numbers;
       lists = length bases;
       beyond = list_any (is_beyond g) numbers;
     }
-
--- ext gives the bytes of an array's element
-abbrev pub through_by : Ground → (ℕ → ℕ) → PlacedLeaf → List ℕ → Through
-through_by g ext l bases = found_by g l.entry (ext l.entry) l.place bases
 
 abbrev pub open_by : Ground → Through → Opened
 open_by g t = record { entry = t.entry; read = read_by g t.bytes t.rows }
@@ -107,11 +127,6 @@ through_from g ext os (l ∷ ls) =
     let around = back_to l.array os in
     let t = through_by g ext l (places_in g around) in
     t ∷ through_from g ext (open_by g t ∷ around) ls
-
--- the stride is less than so many bytes, or isn't that of the row before it
-abbrev pub is_odd_behind : Ground → ℕ → Option ℕ → ℕ → Bool
-is_odd_behind g bytes None r = nat_lt (row g r).stride bytes
-is_odd_behind g bytes (Some q) r = nat_lt (row g r).stride bytes || not ((row g q).stride == (row g r).stride)
 
 -- ---- what is found
 
@@ -130,13 +145,17 @@ abbrev pub first_below : (ℕ → Bool) → ℕ → ℕ → Option ℕ
 first_below test r zero = None
 first_below test r (suc n) = if test r then Some r else first_below test (r + 1) n
 
--- the row is named through the array, and its stride isn't the array's
-abbrev pub is_misstrided_in : Ground → ℕ → Through → Bool
-is_misstrided_in g r t = list_any (λ q. q == r) t.rows && not (is_strided_by g t.bytes t.rows r)
+abbrev pub least : List ℕ → Option ℕ
+least [] = None
+least (n ∷ ns) = least_of (Some n) (least ns)
 
--- through one of these
-abbrev pub is_misstrided_by : Ground → List Through → ℕ → Bool
-is_misstrided_by g ts r = list_any (is_misstrided_in g r) ts
+-- the least of several
+abbrev pub least_of_all : List (Option ℕ) → Option ℕ
+least_of_all [] = None
+least_of_all (o ∷ os) = least_of o (least_of_all os)
+
+abbrev pub misstrided_in : Ground → Through → List ℕ
+misstrided_in g t = filter (λ r. not (is_strided_by g t.bytes t.rows r)) t.rows
 
 -- the same as is_full_in, where none, one or many are marked by row
 abbrev pub is_full_by : Ground → List ℕ → ℕ → Bool
@@ -159,18 +178,36 @@ abbrev pub stride_in : Ground → Through → ℕ
 stride_in g t = stride_or g t.bytes (find (has_elements g) t.rows)
 
 -- the entries rise, from i on and below n
-abbrev pub ArraysRise : ℕ → ℕ → List Through → Type 0
+abbrev pub ArraysRise : ℕ → ℕ → List ArrayRows → Type 0
 ArraysRise i n [] = Unit {0}
-ArraysRise i n (t ∷ ts) = (i ≤ t.entry) × (t.entry < n) × ArraysRise (t.entry + 1) n ts
+ArraysRise i n (a ∷ rest) = (i ≤ a.entry) × (a.entry < n) × ArraysRise (a.entry + 1) n rest
 
 -- by entry these are the strides of the arrays
-abbrev pub HaveStrides : Ground → List ℕ → List Through → Type 0
-HaveStrides g strides [] = Unit {0}
-HaveStrides g strides (t ∷ ts) = (slice_index strides t.entry ≡ stride_in g t) × HaveStrides g strides ts
+abbrev pub HaveStrides : List ℕ → List ArrayRows → Type 0
+HaveStrides strides [] = Unit {0}
+HaveStrides strides (a ∷ rest) = (slice_index strides a.entry ≡ a.stride) × HaveStrides strides rest
 
--- the elements of the row, where the array of this number is the one that names it
-abbrev pub owned_elements : Ground → List ℕ → List ℕ → ℕ → ℕ → ℕ
-owned_elements g marks owners i r = if nat_lt 0 (slice_index marks r) && (slice_index owners r == i) then (row g r).count else 0
+-- ---- strides
+
+-- the least of these rows that has elements
+abbrev pub lead_of : Ground → List ℕ → Option ℕ
+lead_of g rows = least (filter (has_elements g) rows)
+
+-- the row has elements, and another stride
+abbrev pub is_odd : Ground → ℕ → ℕ → Bool
+is_odd g stride r = has_elements g r && not ((row g r).stride == stride)
+
+-- the least of these rows that hasn't the stride of the least
+abbrev pub odd_of : Ground → List ℕ → Option ℕ
+odd_of g rows = least (filter (is_odd g (stride_or g 0 (lead_of g rows))) rows)
+
+abbrev pub is_from : Option ℕ → ℕ → Bool
+is_from None r = false
+is_from (Some o) r = nat_le o r
+
+-- the stride holds so many bytes, and the row is before the odd one
+abbrev pub is_even : Ground → ℕ → Option ℕ → ℕ → Bool
+is_even g bytes odd r = not (has_elements g r) || (nat_le bytes (row g r).stride && not (is_from odd r))
 
 -- ---- spans
 
@@ -215,3 +252,17 @@ spans_of g full = table_span g ∷ spans_from g full 1 (row_count g.memory - 1)
 
 abbrev pub ground_of : Dataspace → Ground
 ground_of d = bare_ground d.bytes.items d.table d.static_size
+
+abbrev pub opened : OpenArray → Opened
+opened o = record { entry = o.entry; read = rc_slice_items o.elements.rows }
+
+-- what is told of an array
+abbrev pub told : Ground → Through → ArrayRows
+told g t = record { entry = t.entry; stride = stride_in g t; lists = t.lists; misstrided = least (misstrided_in g t) }
+
+-- what is told of these arrays, none of which names a row past the table's
+pub record AreTold (g : Ground) (ts : List Through) (a : Arrays) : Type 0 where
+  pub found : a.found.items ≡ map (told g) ts
+  pub marks : IsMarked g (all_rows ts) a.marks.items
+  pub none : first_beyond ts ≡ None
+  pub lists : All (λ x. x.lists ≤ 2 ^ 33) a.found.items

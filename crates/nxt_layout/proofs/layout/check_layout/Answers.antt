@@ -1,5 +1,5 @@
 -- What the passes find is what the rules say.
-use Rattle.std.proofs.Common.{◌≡◌, ℕ, ◌⊎◌, List, length, Some, inl, inr, ⊎_elim, sym, ap, ◌∙◌, subst, arith}
+use Rattle.std.proofs.Common.{◌≡◌, ℕ, ◌⊎◌, List, length, map, inr, sym, ap, ◌∙◌, subst, arith}
 use Rattle.std.specs.Prelude.{slice_index}
 use Rattle.nxt_types.specs.Refusals.{IsRefusal}
 use Rattle.nxt_types.specs.Shapes.{Members}
@@ -9,12 +9,11 @@ use Rattle.nxt_model.specs.Values.{group_of}
 use Rattle.nxt_table.specs.Strides.{all_with_strides}
 use Rattle.nxt_table.specs.Inside.Checks.{bytes_of_parts}
 use Rattle.nxt_layout.specs.declared.fault.LayoutFault.TheVariants.{NoMemory}
-use Rattle.nxt_layout.specs.Inside.RowPasses.{bare_ground, ArraysRise, HaveStrides}
-use Rattle.nxt_layout.specs.Inside.Nested.{AreNested, throughs}
+use Rattle.nxt_layout.specs.Inside.RowPasses.{told, ArraysRise, HaveStrides}
 use Rattle.nxt_layout.specs.Start.{ground, stride_of}
 use Rattle.nxt_layout.specs.LayoutRules.{rank, Broken}
 use Rattle.nxt_layout.specs.Layouts.{FileLayout}
-use Rattle.nxt_layout.specs.Inside.Passes.{ground_in, arrays_in, rows_in_file, pool_fault}
+use Rattle.nxt_layout.specs.Inside.Passes.{ground_in, arrays_in, rows_in_file}
 use Rattle.nxt_layout.proofs.Start.ValueAt.{values_among}
 use Rattle.nxt_layout.proofs.Dope.Arrays.{arrays_rise, count_entries}
 use Rattle.nxt_table.proofs.Laws.Passes.{passed_on}
@@ -39,21 +38,13 @@ returns-in_err-footprint-clause-refused c counts =
     let p = c.args.parts in
     let f = c.in_err-footprint.field-0.0 in
     passed_on c.from_residual-in_err-footprint.result f (λ e. (e ≡ NoMemory) ⊎ IsRefusal (Broken p) rank e) c.from_residual-in_err-footprint.ensures.1
-    (⊎_elim
-    (λ (e : f ≡ NoMemory). inl e)
-    (λ (e : pool_fault p ≡ Some f). inr (pool_refused p f c.in_ok-placed.ensures.found.kept c.in_ok-arrays.ensures.kept e))
-    c.in_err-footprint.ensures.refused)
+    (inr (pool_refused p f c.in_ok-placed.ensures.found.kept c.in_ok-arrays.ensures.kept c.in_err-footprint.ensures.refused))
 
-pub strides_of-requires-clause-nested : goal.strides_of-requires-clause-nested
-strides_of-requires-clause-nested c = subst AreNested (sym c.as_slice-2.ensures.value) c.in_ok-arrays.ensures.nested
-
-pub strides_of-requires-clause-rise : goal.strides_of-requires-clause-rise
-strides_of-requires-clause-rise c =
+pub strides_of-requires : goal.strides_of-requires
+strides_of-requires c =
     let p = c.args.parts in
-    let arrays = λ (b : List ℕ). throughs (bare_ground b p.header.dope_at p.header.static_size) c.as_slice-2.result.now in
-    subst (λ n. ArraysRise 0 n (arrays c.in_ok-placed.field-0.bytes.items)) (sym c.len.ensures)
-    (subst (λ b. ArraysRise 0 (length p.toc) (arrays b)) (sym c.in_ok-placed.ensures.found.bytes)
-    (subst (ArraysRise 0 (length p.toc)) (sym (ap (throughs (ground_in p)) c.as_slice-2.ensures.value ∙ c.in_ok-arrays.ensures.found)) (arrays_rise p)))
+    subst (λ n. ArraysRise 0 n c.as_slice-2.result.now) (sym c.len.ensures)
+    (subst (ArraysRise 0 (length p.toc)) (sym (c.as_slice-2.ensures.value ∙ c.in_ok-arrays.ensures.told.found)) (arrays_rise p))
 
 pub shapes_of-requires-clause-strides : goal.shapes_of-requires-clause-strides
 shapes_of-requires-clause-strides c =
@@ -89,10 +80,8 @@ returns-clause-found c counts =
     let pool = c.in_ok-footprint.ensures.found.1 in
     let g = ground p h.shapes in
     let strides = c.in_ok-strides.strides.items in
-    let have : HaveStrides (ground_in p) strides (arrays_in p) =
-    subst (HaveStrides (ground_in p) strides) (ap (throughs (ground_in p)) c.as_slice-2.ensures.value ∙ c.in_ok-arrays.ensures.found)
-    (subst (λ (b : List ℕ). HaveStrides (bare_ground b p.header.dope_at p.header.static_size) strides (throughs (bare_ground b p.header.dope_at p.header.static_size) c.as_slice-2.result.now)) table.bytes c.in_ok-strides.ensures.strides)
-    in
+    let have : HaveStrides strides (map (told (ground_in p)) (arrays_in p)) =
+    subst (HaveStrides strides) (c.as_slice-2.ensures.value ∙ c.in_ok-arrays.ensures.told.found) c.in_ok-strides.ensures.strides in
     let out = laid_out p h rows strides have in
     let toc : Table = record { entries = p.toc; shapes = all_with_strides (slice_index strides) 0 h.shapes } in
     let spelled : c.new.result ≡ toc =

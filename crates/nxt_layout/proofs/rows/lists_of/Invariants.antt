@@ -1,11 +1,9 @@
--- The lists of the arrays so far.
-use Rattle.std.proofs.Common.{◌≡◌, ◌≤◌, ◌*◌, ◌^◌, take}
-use Rattle.nxt_layout.specs.Inside.RowPasses.{ground_of, list_count}
-use Rattle.nxt_layout.specs.Inside.Nested.{throughs}
+-- The lists so far, and those of the arrays that are left.
+use Rattle.std.proofs.Common.{◌≡◌, ◌≤◌, ◌+◌, ◌*◌, ◌^◌, drop, sum_by}
 use Rattle.nxt_layout.proofs.rows.lists_of.Given as goal
 
 abbrev pub invariant-loop-array : goal.invariant-loop-array
 invariant-loop-array l = record {
-  sum : l.lists ≡ list_count (take l.array-index (throughs (ground_of l.space) l.arrays));
-  bound : l.lists ≤ 2 ^ 32 * l.array-index;
+  same : l.lists + sum_by (λ a. a.lists) (drop l.array-index l.arrays) ≡ sum_by (λ a. a.lists) l.arrays;
+  bound : l.lists ≤ 2 ^ 33 * l.array-index;
 }

@@ -2,7 +2,8 @@
 use Rattle.std.proofs.Common.{rules, ◌≡◌, true, false, ◌+◌, ◌-◌, ◌++◌, ◌∷◌, [], ap, sym, ◌∙◌, subst, arith, append-nil}
 use Rattle.nxt_layout.specs.declared.spans.Span.{Span}
 use Rattle.nxt_layout.specs.Inside.RowPasses.{ground_of, is_full_by, spans_from, row_span, SpansRise}
-use Rattle.nxt_layout.proofs.Dope.Searches.{all_rise, span_more, span_less}
+use Rattle.nxt_layout.proofs.Dope.Searches.{all_rise}
+use Rattle.nxt_layout.proofs.Dope.Through.{span_more, span_less}
 use Rattle.nxt_layout.proofs.spans.spans_of.Goals.{then-is_full+in_ok-push-2, else-is_full}
 use Rattle.nxt_layout.proofs.spans.spans_of.Goals as goal
 

@@ -1,1 +1,0 @@
--- Each turn flips its marks.
