@@ -30,7 +30,7 @@ struct Task {
 }
 
 // The task that the words tell.
-fn task(rt: &HostRuntime) -> Task {
+fn task_of_words(rt: &HostRuntime) -> Task {
     let mut task = Task {
         part: Part::Space,
         letter: 0,
@@ -81,7 +81,7 @@ fn tell_texts(alloc: Global, letter: u8, work: Work) -> Result<bool, Fail> {
 }
 
 fn main(rt: HostRuntime) -> Result<ExitCode, Fail> {
-    let task = task(&rt);
+    let task = task_of_words(&rt);
     let odd = match task.part {
         Part::Space => space::work(rt.alloc(), task.letter, 1_000_000)? == 1,
         Part::Text => tell_texts(rt.alloc(), task.letter, task.work)?,
