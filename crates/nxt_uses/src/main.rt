@@ -55,13 +55,16 @@ fn give(rt: &HostRuntime, machine: &mut Machine, event: &Event) -> Result<()> {
 // Runs bytecodes, and prints each line as it comes.
 fn run(rt: &HostRuntime, machine: &mut Machine) -> Result<()> {
     let mut left = AT_ONCE;
-    while left > 0 {
+    for _ in 0..AT_ONCE {
         let mut lines = Lines::new(rt.alloc());
         let ran = machine
             .run(rt.alloc(), left, &mut lines)
             .map_err(|_| anyhow!("no memory"))?;
         print_lines(rt, &lines)?;
-        left -= ran;
+        left = left.saturating_sub(ran);
+        if left == 0 {
+            return Ok(());
+        }
     }
     Ok(())
 }
