@@ -21,7 +21,7 @@ use Rattle.nxt_heap.proofs.Laws.Lengths.{length-of_length, of_length-same}
 use Rattle.nxt_heap.proofs.ListsKept.{list_in-some, length-lists_in, lists_in-at}
 use Rattle.nxt_heap.proofs.Windows.{block_is}
 use Rattle.nxt_heap.proofs.Settled.{total_below, end_inside}
-use Rattle.nxt_heap.proofs.Seen.{Lives, no_list, length_bytes, static_kept, footprint_state}
+use Rattle.nxt_heap.proofs.Seen.{Lives, no_list, length_bytes, length_static, static_kept, footprint_state}
 
 -- the lists of a pool behind so many static bytes
 abbrev pub shown : ℕ → List ℕ → BlockState → Lists
@@ -219,3 +219,12 @@ copied h to from n alive same =
 
 pub length_left : (h : Lists) (to from n : ℕ) → IsSome (list_at h to) → length (bytes_at h from) ≡ n → length (bytes_at (with_length h to n) from) ≡ n
 length_left h to from n alive same = ap length (bytes_kept h to from n alive same) ∙ same
+
+-- ---- soundness
+
+-- the blocks lie above the static bytes
+pub base_shown : (static_size : ℕ) (pool fronts : List ℕ) (p : BlockState) → IsHeap static_size p pool fronts → p.base ≡ round4 (length (take static_size pool))
+base_shown static_size pool fronts p h = h.base_is ∙ sym (ap round4 (length_static static_size pool fronts p h))
+
+pub sound_shown : (static_size : ℕ) (pool fronts : List ℕ) (p : BlockState) → IsHeap static_size p pool fronts → IsSound pool p.table (round4 (length (take static_size pool)))
+sound_shown static_size pool fronts p h = subst (IsSound pool p.table) (base_shown static_size pool fronts p h) h.blocks.is_pool.sound

@@ -6,3 +6,5 @@ pub mod Lengths
 pub mod Footprints
 -- Blocks that stay.
 pub mod Moves
+-- The table right above the static bytes, and a pool without gaps.
+pub mod Front

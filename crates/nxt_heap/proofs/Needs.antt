@@ -1,16 +1,16 @@
 -- Room for a row's block is made where it moves least.
-use Rattle.std.proofs.Common.{◌≡◌, ◌≢◌, ℕ, ◌+◌, ◌*◌, ◌/◌, ◌<◌, ◌≤◌, inl, inr, false, List, length, refl, ap, sym, ◌∙◌, arith}
-use Rattle.std.proofs.lemmas.Bool.{false≢true}
+use Rattle.std.proofs.Common.{◌≡◌, ◌≢◌, ℕ, ◌+◌, ◌*◌, ◌/◌, ◌<◌, ◌≤◌, inl, inr, false, cond, List, length, refl, ap, sym, ◌∙◌, arith}
+use Rattle.std.proofs.lemmas.Bool.{false≢true, le-ltb}
 use Rattle.std.proofs.lemmas.Nat.{div-add-mod'}
 use Rattle.nxt_types.specs.Pool.{round4}
 use Rattle.nxt_blocks.specs.Blocks.{packed}
 use Rattle.nxt_blocks.proofs.Laws.Growing.{slid-order, slid_bytes}
-use Rattle.nxt_blocks.proofs.Laws.Packing.{packed-next}
+use Rattle.nxt_blocks.proofs.Laws.Packing.{below_none, packed-next}
 use Rattle.nxt_rows.specs.Rows.{dope_row, row_count, no_place}
 use Rattle.nxt_compact.specs.Pools.{block_bytes, block_of, blocks_in, IsFull, Moves, Compacts, slid_in}
 use Rattle.nxt_compact.specs.Steps.{moved_to}
 use Rattle.nxt_compact.proofs.Laws.Going.{moved_full, place_moved}
-use Rattle.nxt_compact.proofs.Laws.InPool.{full_in}
+use Rattle.nxt_compact.proofs.Laws.InPool.{full_in, standing}
 use Rattle.nxt_heap.specs.Lists.{Pool}
 use Rattle.nxt_heap.specs.Moves.{holds_behind, RowsStay, MovesAtNeed}
 use Rattle.nxt_heap.proofs.Laws.Moves.{blocks_stay}
@@ -23,6 +23,18 @@ use Rattle.nxt_heap.proofs.Rooms.{smaller_hole}
 use Rattle.nxt_heap.proofs.Windows.{le-block}
 use Rattle.nxt_heap.proofs.Open.{open_is, lowest_fit, behind_true, empty_behind}
 
+-- ---- right above the static bytes
+
+-- a block that stands there stays there where all gaps close
+packed_front : (pool : List ℕ) (table base place : ℕ) → IsPool pool table base → place ≡ base → packed base (blocks_in pool table) place ≡ base
+packed_front pool table base place is low = ap (packed base (blocks_in pool table)) low ∙ omega (arith, below_none (blocks_in pool table) base (standing pool table base is.sound).above)
+
+-- and where others slide up behind a block
+slid_front : (pool : List ℕ) (table base row more place : ℕ) → IsPool pool table base → IsFull pool table row → place ≡ base → slid_in pool table base row more place ≡ base
+slid_front pool table base row more place is full low =
+    let grown = (dope_row pool table row).place in
+    omega (arith, ap (λ t. cond t more 0) (le-ltb grown place (omega (arith, is.sound.above row full, low))), packed_front pool table base place is low)
+
 -- ---- room that is made
 
 -- nothing moves
@@ -31,6 +43,7 @@ stays pool q row bytes p full room = record {
   behind = λ e. ((λ r f other. refl), refl);
   hole = λ place none lowest. absurd (false≢true (sym none ∙ behind_true pool q.table q.base row bytes p full room));
   order = λ r s f g one other l. l;
+  front = λ r f other low. low;
 }
 
 -- a row without a block gets a hole
@@ -39,6 +52,7 @@ takes_hole pool q row bytes at p within none f = record {
   behind = λ e. absurd (false≢true (sym (empty_behind pool q.table q.base row bytes p within none) ∙ e));
   hole = λ place never lowest. ((λ r g other. refl), lowest_fit pool q.table q.base bytes at place p.size f lowest);
   order = λ r s f g one other l. l;
+  front = λ r f other low. low;
 }
 
 -- or stands above all others, where no hole holds it
@@ -57,6 +71,7 @@ settles old new p q row bytes at settled is within none never c =
         place_moved p.base (packed p.base xs) old new p.table q.table s m g,
         packed-next xs p.base (dope_row old p.table s).place (block_of old p.table r) (full_in old p.table r f) l,
       );
+      front = λ r f one low. place_moved p.base (packed p.base xs) old new p.table q.table r m f ∙ packed_front old p.table p.base (dope_row old p.table r).place is low;
     }
 
 -- a block moves into a hole
@@ -69,12 +84,13 @@ moves_into old new p q row bytes at is full long never f m =
       behind = λ e. absurd (false≢true (sym never ∙ e));
       hole = λ place _ lowest. ((λ r g other. same.place r other g), lowest_fit old p.table p.base bytes at place is.size f lowest);
       order = λ r s g h one other l. omega (arith, l, same.place r one g, same.place s other h);
+      front = λ r g one low. same.place r one g ∙ low;
     }
 
 -- what stands above a block moves up
-pub slides : (old new : List ℕ) (p q : BlockState) (row bytes at more : ℕ) → IsPool old p.table p.base → holds_behind p.base (record { bytes = old; table = p.table }) row bytes ≡ false → ((place : ℕ) → p.base ≤ place → IsHole old p.table place bytes → ⊥)
+pub slides : (old new : List ℕ) (p q : BlockState) (row bytes at more : ℕ) → IsPool old p.table p.base → IsFull old p.table row → holds_behind p.base (record { bytes = old; table = p.table }) row bytes ≡ false → ((place : ℕ) → p.base ≤ place → IsHole old p.table place bytes → ⊥)
     → Moves p.base (slid_in old p.table p.base row more) old new p.table q.table → MakesRoom old new p q row bytes at
-slides old new p q row bytes at more is not never m =
+slides old new p q row bytes at more is full not never m =
     let xs = blocks_in old p.table in
     let grown = (dope_row old p.table row).place in
     record {
@@ -88,6 +104,7 @@ slides old new p q row bytes at more is not never m =
         slid_bytes p.base xs grown more (block_of old p.table r),
         slid-order p.base (length old) xs grown more (block_of old p.table r) (block_of old p.table s) (full_in old p.table r f) l,
       );
+      front = λ r f one low. place_moved p.base (slid_in old p.table p.base row more) old new p.table q.table r m f ∙ slid_front old p.table p.base row more (dope_row old p.table r).place is full low;
     }
 
 -- ---- once the row is written
@@ -105,6 +122,7 @@ then_need old fronts mid fronts' new p q to table row bytes place is b m count f
       behind = λ e. let k = m.behind e in ((λ r f other. placed r f other ∙ k.0 r f other), λ some. own ∙ k.1);
       hole = λ at never lowest. let k = m.hole at never lowest in ((λ r f other. placed r f other ∙ k.0 r f other), λ some. own ∙ k.1);
       order = λ r s f g one other l. omega (arith, m.order r s f g one other l, placed r f one, placed s g other);
+      front = λ r f other low. placed r f other ∙ m.front r f other low;
     }
 
 -- a list that has bytes
@@ -130,6 +148,7 @@ no_bytes old new p row bytes is above none r =
       behind = λ e. (placed, λ some. absurd (omega (arith, some, none)));
       hole = λ at never lowest. (placed, λ some. absurd (omega (arith, some, none)));
       order = λ s t f g one other l. omega (arith, l, placed s f one, placed t g other);
+      front = λ s f other low. placed s f other ∙ low;
     }
 
 -- the table with a row more
@@ -166,6 +185,7 @@ unmoved pool p row bytes is within long = record {
         }))),
   );
   order = λ q r f g one other l. l;
+  front = λ q f other low. low;
 }
 
 -- ---- bytes stored once there is room
@@ -179,4 +199,5 @@ then_stay base old mid new row bytes m rows =
       behind = λ e. let k = m.behind e in ((λ q full other. (stay q (m.still q full other)).1 ∙ k.0 q full other), λ some. (stay row (m.own some)).1 ∙ k.1 some);
       hole = λ at never lowest. let k = m.hole at never lowest in ((λ q full other. (stay q (m.still q full other)).1 ∙ k.0 q full other), λ some. (stay row (m.own some)).1 ∙ k.1 some);
       order = λ q r f g one other l. omega (arith, m.order q r f g one other l, (stay q (m.still q f one)).1, (stay r (m.still r g other)).1);
+      front = λ q f other low. (stay q (m.still q f other)).1 ∙ m.front q f other low;
     }

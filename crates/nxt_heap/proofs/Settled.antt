@@ -5,7 +5,7 @@ use Rattle.std.proofs.lemmas.Bool.{cases_lt, ltb-false, lt-ltb, le-ltb}
 use Rattle.std.proofs.lemmas.List.Sums.{sum_by-cons}
 use Rattle.nxt_types.specs.Pool.{pool_size}
 use Rattle.nxt_model.specs.Reading.{Block}
-use Rattle.nxt_blocks.specs.Blocks.{total, packed, below, place_after, unsettled_below}
+use Rattle.nxt_blocks.specs.Blocks.{total, packed, below, place_after, unsettled, unsettled_below}
 use Rattle.nxt_blocks.specs.Standing.{Stand, IsApart}
 use Rattle.nxt_blocks.proofs.Laws.Sums.{In, each_from}
 use Rattle.nxt_blocks.proofs.Laws.Packing.{fits}
@@ -146,13 +146,17 @@ at_rest pool table base end k r p e dense f =
       | inr l ↦ ap (λ t. cond t (packed base xs place) place) (le-ltb (unsettled_below base xs place) k l)
     ]
 
+pub none_unsettled : (pool : List ℕ) (table base end : ℕ) → IsPool pool table base → IsEnd pool table end → end ≡ base + total (blocks_in pool table) → unsettled base (blocks_in pool table) ≡ 0
+none_unsettled pool table base end p e dense =
+    let xs = blocks_in pool table in
+    full-unsettled base xs (subst (λ n. Stand base n xs) dense (stand_to pool table base end p e))
+
 pub rests : (pool : List ℕ) (table base end k : ℕ) → IsPool pool table base → IsEnd pool table end → end ≡ base + total (blocks_in pool table) → Compacts base k pool pool table table 0
 rests pool table base end k p e dense =
     let xs = blocks_in pool table in
-    let s : Stand base (base + total xs) xs = subst (λ n. Stand base n xs) dense (stand_to pool table base end p e) in
     record {
       moves = same_moves base (λ q. q) (place_after k base xs) pool pool table table (first_full pool table base p.sound) p.sound.place (no_moves base pool table) (λ r f. sym (at_rest pool table base end k r p e dense f));
-      count = omega (arith, full-unsettled base xs s);
+      count = omega (arith, none_unsettled pool table base end p e dense);
     }
 
 -- ---- settled

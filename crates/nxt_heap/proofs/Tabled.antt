@@ -1,7 +1,8 @@
 -- The rows of a table as the memory of a file has them, and the chain of those without a list.
-use Rattle.std.proofs.Common.{◌≡◌, ℕ, zero, suc, ◌<◌, ◌≤◌, true, ◌||◌, List, [], length, take, nat_eq, is_none, None, inl, inr, refl, sym, ap, ◌∙◌, arith, eq-eqb, ne_eqb, eqb-true}
+use Rattle.std.proofs.Common.{◌≡◌, ℕ, zero, suc, ◌<◌, ◌≤◌, true, ◌||◌, List, [], length, take, nat_eq, is_none, None, inl, inr, refl, sym, ap, subst, ◌∙◌, arith, eq-eqb, ne_eqb, eqb-true}
 use Rattle.std.specs.List.{list_any}
 use Rattle.std.proofs.lemmas.Bool.{cases_eq, or_right}
+use Rattle.std.proofs.lemmas.List.{take_all}
 use Rattle.nxt_model.specs.Dump.{IsChain}
 use Rattle.nxt_model.specs.Reading.{Memory, DopeRow}
 use Rattle.nxt_model.specs.Reading.{dope_row as memory_row}
@@ -13,7 +14,7 @@ use Rattle.nxt_heap.specs.declared.blocks.BlockState.{BlockState}
 use Rattle.nxt_heap.specs.Dumps.{row_of, IsDopeTable}
 use Rattle.nxt_heap.specs.Inside.Pool.{list_in, state_of, IsPool, IsHeap}
 use Rattle.nxt_heap.proofs.Chained.{pool_table}
-use Rattle.nxt_heap.proofs.Dumped.{front_row}
+use Rattle.nxt_heap.proofs.Dumped.{end_below, front_row}
 use Rattle.nxt_heap.proofs.ListsKept.{list_in-none, list_in-some, lists_in-at}
 
 -- the links lead where a chain tells that is not cut off
@@ -104,3 +105,9 @@ module _ (static_size : ℕ) (pool fronts : List ℕ) (q : BlockState) (h : IsHe
             let less : r < row_count pool q.table = omega (arith, within, rows) in
             p.free r above less ∙ none_is r above less ∙ sym (ap is_none (lists_in-at pool q.table r None less));
       }
+
+-- so do those of the whole pool
+pub pool_dope_table : (static_size : ℕ) (pool fronts : List ℕ) (q : BlockState) → IsHeap static_size q pool fronts → IsDopeTable pool q.table (state_of static_size (record { bytes = pool; table = q.table }))
+pool_dope_table static_size pool fronts q h =
+    subst (λ bytes. IsDopeTable bytes q.table (state_of static_size (record { bytes = pool; table = q.table }))) (take_all (length pool) pool (omega arith))
+    (dope_table static_size pool fronts q h (length pool) (end_below static_size pool fronts q h) (omega arith))

@@ -1,10 +1,10 @@
 -- Where blocks stand after a growth: they move only at need.
-use Rattle.std.specs.Prelude.{◌≡◌, ◌≢◌, ℕ, ◌+◌, ◌-◌, ◌<◌, Bool, true, false}
+use Rattle.std.specs.Prelude.{◌≡◌, ◌≢◌, ℕ, ◌+◌, ◌-◌, ◌<◌, ◌≤◌, Bool, true, false, length}
 use Rattle.nxt_types.specs.Pool.{pool_size}
-use Rattle.nxt_blocks.specs.Blocks.{is_open, IsFirstFit}
+use Rattle.nxt_blocks.specs.Blocks.{is_open, unsettled, IsFirstFit}
 use Rattle.nxt_rows.specs.Rows.{dope_row, row_count}
 use Rattle.nxt_compact.specs.Pools.{block_bytes, blocks_in, IsFull}
-use Rattle.nxt_heap.specs.Lists.{Pool}
+use Rattle.nxt_heap.specs.Lists.{Pool, HeapViews, base_of}
 
 -- where a row's block stands. The table is that of row 0, and a list without bytes stands nowhere
 abbrev pub place_in : Pool → ℕ → ℕ
@@ -44,15 +44,27 @@ pub record NoneMoves (old new : Pool) : Type 0 where
   pub blocks : (q : ℕ) → HasBlock new q → HasBlock old q × (place_in new q ≡ place_in old q)
 
 -- a row's block gets so many bytes. Where it can, it stays; else it goes to the lowest hole; and only where there is none do
--- others move, which keep their order
+-- others move, which keep their order. Another block that stands right above the static bytes stays there
 pub record MovesAtNeed (base : ℕ) (old new : Pool) (row bytes : ℕ) : Type 0 where
   pub still : (q : ℕ) → HasBlock old q → q ≢ row → HasBlock new q
   pub own : 0 < bytes → HasBlock new row
   pub behind : holds_behind base old row bytes ≡ true → OthersStay old new row × (0 < bytes → place_in new row ≡ place_in old row)
   pub hole : (place : ℕ) → holds_behind base old row bytes ≡ false → IsLowestHole base old bytes place → OthersStay old new row × (0 < bytes → place_in new row ≡ place)
   pub order : (q r : ℕ) → HasBlock old q → HasBlock old r → q ≢ row → r ≢ row → place_in old q < place_in old r → place_in new q < place_in new r
+  pub front : (q : ℕ) → HasBlock old q → q ≢ row → place_in old q ≡ base → place_in new q ≡ base
 
 -- a row is taken, or the table grows by one. Where a row is free no block moves
 pub record GrowsTable (base : ℕ) (old new : Pool) (free : Bool) (bytes : ℕ) : Type 0 where
   pub stays : free ≡ true → BlocksStay old new
   pub grows : free ≡ false → MovesAtNeed base old new 0 bytes
+
+-- the table stands right above the static bytes, and no block has a gap below it
+pub record IsPacked (base : ℕ) (p : Pool) : Type 0 where
+  pub table : p.table ≡ base
+  pub gaps : unsettled base (blocks_in p.bytes p.table) ≡ 0
+
+-- the table gets no shorter, and where it gets no longer it stays right above the static bytes, of which there are as many
+pub record KeepsFront (old new : HeapViews) : Type 0 where
+  pub base : base_of new.lists ≡ base_of old.lists
+  pub rows : length old.lists.by_row ≤ length new.lists.by_row
+  pub front : length new.lists.by_row ≡ length old.lists.by_row → old.pool.table ≡ base_of old.lists → new.pool.table ≡ base_of old.lists

@@ -7,7 +7,7 @@ ghost use Rattle.nxt_blocks.specs.Blocks.{place_after, total};
 ghost use Rattle.nxt_compact.specs.Pools.{IsFull, block_bytes as bytes_of_block, blocks_in, slid_in, Compacts};
 ghost use Rattle.nxt_facts.specs.PutAt.{put_at};
 ghost use Rattle.nxt_heap.specs.Lists.{any_free};
-ghost use Rattle.nxt_heap.specs.Moves.{holds_behind, MovesAtNeed, GrowsTable, NoneMoves};
+ghost use Rattle.nxt_heap.specs.Moves.{holds_behind, IsPacked, MovesAtNeed, GrowsTable, NoneMoves};
 ghost use Rattle.nxt_heap.specs.declared.blocks.BlockState.{BlockState};
 ghost use Rattle.nxt_compact.specs.Steps.{moved_to};
 ghost use Rattle.nxt_heap.specs.Inside.Pool.{IsPool, IsEnd, AreFronts, IsHole, IsOpenTo, IsEndBelow, IsFit, IsRoom, AreBlocks, BlocksMove, MakesRoom, MayHave, HasMoved, IsListRow, Relists, HasLength, Frees, Takes, IsRefused, HasRow, AddsRow, Stores, lists_in, pool_at, row_bytes as bytes_in_row, words, no_row};
@@ -492,6 +492,7 @@ pub fn lay_out(pool: &mut [u8], fronts: &mut [u16], base: u32, rows: u16) -> Blo
     requires fits { base + rounded (10 * rows) ≤ pool_size }
     ensures blocks { AreBlocks pool.new fronts.new result }
     ensures base { result.base ≡ base }
+    ensures packed { IsPacked base (pool_at pool.new result) }
     ensures lists { lists_in pool.new result.table ≡ replicate rows None }
     ensures zeros { (k : ℕ) → k < base → slice_index pool.new k ≡ 0 }
 {

@@ -3,7 +3,7 @@ ghost use Rattle.nxt_facts.specs.PutAt.{put_at};
 ghost use Rattle.nxt_types.specs.Pool.{round4 as rounded, pool_size};
 ghost use Rattle.nxt_heap.specs.Dumps.{HoldHeap, IsDopeTable, row_of};
 ghost use Rattle.nxt_heap.specs.Lists.{IsAlive, list_at, stride_at, bytes_at, footprint, Passes, IsFree, with_free, with_free_row, empty_list, zero_heap, base_of, with_list, with_length, with_bytes, with_these, any_free};
-ghost use Rattle.nxt_heap.specs.Moves.{MovesAtNeed, GrowsTable, NoneMoves, RowsStay, OthersStay};
+ghost use Rattle.nxt_heap.specs.Moves.{MovesAtNeed, GrowsTable, IsPacked, KeepsFront, NoneMoves, RowsStay, OthersStay};
 ghost use Rattle.nxt_compact.specs.Pools.{blocks_in, Compacts, IsSound};
 ghost use Rattle.nxt_blocks.specs.Blocks.{unsettled as unsettled_in};
 ghost use Rattle.nxt_model.specs.Dump.{greatest_end};
@@ -48,11 +48,13 @@ impl Model for Heap {
 }
 
 impl Heap {
-    /// A heap of zeros, with a table of row 0 and free rows. All the memory that later calls need is taken here.
+    /// A heap of zeros, with a table of row 0 and free rows right above the static bytes. All the memory that later calls need
+    /// is taken here.
     pub fn new(alloc: Global, static_size: u32, rows: u16) -> Result<Heap, NoMemory>
         requires rows { 1 ≤ rows }
         requires fits { rounded static_size + rounded (10 * rows) ≤ pool_size }
-        ensures { IfOk result (λ heap. heap.lists ≡ zero_heap static_size rows) }
+        ensures lists { IfOk result (λ heap. heap.lists ≡ zero_heap static_size rows) }
+        ensures packed { IfOk result (λ heap. IsPacked (base_of heap.lists) heap.pool) }
     {
         let mut pool = vec![in alloc; 0; POOL_BYTES as usize]?;
         let mut fronts = vec![in alloc; NO_ROW; WORDS]?;
@@ -99,6 +101,7 @@ impl Heap {
         ensures free { IfOk result (λ row. IsFree (with_free self.old.lists.by_row) row) }
         ensures ok { IfOk result (λ row. self.new.lists ≡ with_list (with_free_row self.old.lists) row (empty_list stride)) }
         ensures moves { OnOk result (GrowsTable (base_of self.old.lists) self.old.pool self.new.pool (any_free self.old.lists.by_row) (rounded (10 * (length self.old.lists.by_row + 1)))) }
+        ensures front { OnOk result (KeepsFront self.old self.new) }
         ensures fits { OnOk result (footprint (with_free_row self.old.lists) ≤ pool_size) }
         ensures passed { IfErr result (λ e. Passes (with_free_row self.old.lists) e.0) }
         ensures err { OnErr result (self.new ≡ self.old) }
@@ -112,6 +115,7 @@ impl Heap {
         requires whole { bytes % stride_at self.old.lists row ≡ 0 }
         ensures ok { OnOk result (self.new.lists ≡ with_length self.old.lists row bytes) }
         ensures moves { OnOk result (MovesAtNeed (base_of self.old.lists) self.old.pool self.new.pool row (rounded bytes)) }
+        ensures front { OnOk result (KeepsFront self.old self.new) }
         ensures shorter { OnOk result (bytes ≤ length (bytes_at self.old.lists row) → NoneMoves self.old.pool self.new.pool) }
         ensures fits { OnOk result (footprint (with_length self.old.lists row bytes) ≤ pool_size) }
         ensures passed { IfErr result (λ e. Passes (with_length self.old.lists row bytes) e.0) }
@@ -296,11 +300,12 @@ impl Heap {
     }
 
     /// What a heap holds is sound: the pool has 32,768 bytes, row 0 is the table's own, and no list, the pool's rows read as the
-    /// lists, and the blocks share no byte. The call does nothing.
+    /// lists and are a dope table, and the blocks share no byte. The call does nothing.
     pub fn recall_sound(&self)
         ensures first { list_at self.now.lists 0 ≡ None }
         ensures holds { HoldHeap self.now.pool.bytes self.now.pool.table self.now.lists }
         ensures apart { IsSound self.now.pool.bytes self.now.pool.table (base_of self.now.lists) }
+        ensures table { IsDopeTable self.now.pool.bytes self.now.pool.table self.now.lists }
         ensures size { length self.now.pool.bytes ≡ pool_size }
     {
         let _end = self.state.end;

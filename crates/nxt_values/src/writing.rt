@@ -7,7 +7,7 @@ ghost use Rattle.nxt_types.specs.Shapes.{tree, members, has_list, some_list};
 ghost use Rattle.nxt_types.specs.Names.{size, sizes};
 ghost use Rattle.nxt_types.specs.Pool.{pool_size, round4 as rounded};
 ghost use Rattle.nxt_heap.specs.Lists.{footprint, bytes_at};
-ghost use Rattle.nxt_heap.specs.Moves.{RowsStay, NoneMoves};
+ghost use Rattle.nxt_heap.specs.Moves.{KeepsFront, RowsStay, NoneMoves};
 ghost use Rattle.nxt_values.specs.Held.{leaf_place as place_of};
 ghost use Rattle.nxt_values.specs.Regions.{bytes_in, IsRegion, HoldsThere, HoldAllThere};
 ghost use Rattle.nxt_values.specs.Ahead.{ahead};
@@ -41,6 +41,7 @@ fn set_bytes(heap: &mut Heap, region: Region, at: u32, bytes: &[u8])
     requires within { at + length bytes.now ≤ length (bytes_in heap.old.lists region) }
     ensures lists { heap.new.lists ≡ with_bytes heap.old.lists region (put bytes.now at (bytes_in heap.old.lists region)) }
     ensures stay { RowsStay heap.old.pool heap.new.pool }
+    ensures front { KeepsFront heap.old heap.new }
 {
     match region {
         Region::Static => heap.set_static(at, bytes),
@@ -55,6 +56,7 @@ pub fn set_row(heap: &mut Heap, region: Region, at: u32, row: u16)
     requires small { length (bytes_in heap.old.lists region) < 2 ^ 32 }
     ensures lists { heap.new.lists ≡ with_bytes heap.old.lists region (put (to_le_bytes w16 row) at (bytes_in heap.old.lists region)) }
     ensures stay { RowsStay heap.old.pool heap.new.pool }
+    ensures front { KeepsFront heap.old heap.new }
 {
     set_bytes(heap, region, at, &row.to_le_bytes());
 }
@@ -66,6 +68,7 @@ pub fn set_number(heap: &mut Heap, region: Region, at: u32, kind: Kind, x: i64)
     requires small { length (bytes_in heap.old.lists region) < 2 ^ 32 }
     ensures lists { heap.new.lists ≡ with_bytes heap.old.lists region (put (bytes_of_number kind x) at (bytes_in heap.old.lists region)) }
     ensures stay { RowsStay heap.old.pool heap.new.pool }
+    ensures front { KeepsFront heap.old heap.new }
 {
     let bytes = wrap(x).to_le_bytes();
     if matches!(kind, Kind::Ulong | Kind::Slong) {
@@ -139,6 +142,7 @@ fn set_first(heap: &mut Heap, region: Region, at: u32, kind: Kind, from: &[i64])
     requires small { length (bytes_in heap.old.lists region) < 2 ^ 32 }
     ensures lists { heap.new.lists ≡ with_bytes heap.old.lists region (put (bytes_of_number kind (first_of from.now)) at (bytes_in heap.old.lists region)) }
     ensures stay { RowsStay heap.old.pool heap.new.pool }
+    ensures front { KeepsFront heap.old heap.new }
 {
     set_number(heap, region, at, kind, first_number(from));
 }
@@ -178,6 +182,7 @@ fn open_list(
     ensures pool { OnOk result (footprint heap.new.lists ≤ pool_size) }
     ensures passed { OnErr result (pool_size < needs heap.old.lists 1 (rounded (count * stride))) }
     ensures opened { IfOk result (λ elements. AreOpened entries.now heap.old.lists heap.new.lists list stride count elements) }
+    ensures front { OnOk result (KeepsFront heap.old heap.new) }
 {
     if count > POOL_BYTES {
         return Err(Full);
@@ -250,6 +255,7 @@ pub fn fill<'a>(
     ensures passed { OnErr result (pool_size < needs_for heap.old.lists (tree shape.now) from.now) }
     ensures filled { IfOk result (λ rest. FillsThere entries.now heap.old.lists heap.new.lists (tree shape.now) at from.now rest.now) }
     ensures stays { has_list (tree shape.now) ≡ false → OnOk result (RowsStay heap.old.pool heap.new.pool) }
+    ensures front { OnOk result (KeepsFront heap.old heap.new) }
 {
     match shape {
         Shape::Void | Shape::Mutex => Ok(behind(from)),
@@ -283,6 +289,7 @@ fn fill_elements<'a>(
     ensures passed { OnErr result (pool_size < needs_for_each heap.old.lists (tree element.now) elements.count from.now) }
     ensures filled { IfOk result (λ rest. FillsElements entries.now heap.old.lists heap.new.lists (tree element.now) elements from.now rest.now) }
     ensures stays { has_list (tree element.now) ≡ false → OnOk result (RowsStay heap.old.pool heap.new.pool) }
+    ensures front { OnOk result (KeepsFront heap.old heap.new) }
 {
     let mut left = from;
     for k in 0..elements.count {
@@ -306,6 +313,7 @@ fn fill_ahead<'a>(
     ensures passed { OnErr result (pool_size < needs_for_all heap.old.lists (ahead members.entry) from.now) }
     ensures filled { IfOk result (λ rest. FillAllThere entries.now heap.old.lists heap.new.lists (ahead members.entry) members.entry.first from.now rest.now) }
     ensures stays { some_list (ahead members.entry) ≡ false → OnOk result (RowsStay heap.old.pool heap.new.pool) }
+    ensures front { OnOk result (KeepsFront heap.old heap.new) }
 {
     let mut left = from;
     while let Some((shape, place)) = members.next() {
@@ -330,6 +338,7 @@ pub fn fill_members<'a>(
     ensures passed { OnErr result (pool_size < needs_for_all heap.old.lists (members (map tree shapes.now)) from.now) }
     ensures filled { IfOk result (λ rest. FillAllThere entries.now heap.old.lists heap.new.lists (members (map tree shapes.now)) at from.now rest.now) }
     ensures stays { some_list (members (map tree shapes.now)) ≡ false → OnOk result (RowsStay heap.old.pool heap.new.pool) }
+    ensures front { OnOk result (KeepsFront heap.old heap.new) }
 {
     fill_ahead(heap, entries, Members::from_first(shapes, at), from)
 }

@@ -205,6 +205,7 @@ pub record MakesRoom (old new : List ℕ) (p q : BlockState) (row bytes place : 
   pub behind : holds_behind p.base (pool_at old p) row bytes ≡ true → OthersStay (pool_at old p) (pool_at new q) row × (place ≡ (dope_row old p.table row).place)
   pub hole : (at : ℕ) → holds_behind p.base (pool_at old p) row bytes ≡ false → IsLowestHole p.base (pool_at old p) bytes at → OthersStay (pool_at old p) (pool_at new q) row × (place ≡ at)
   pub order : (r s : ℕ) → IsFull old p.table r → IsFull old p.table s → r ≢ row → s ≢ row → (dope_row old p.table r).place < (dope_row old p.table s).place → (dope_row new q.table r).place < (dope_row new q.table s).place
+  pub front : (r : ℕ) → IsFull old p.table r → r ≢ row → (dope_row old p.table r).place ≡ p.base → (dope_row new q.table r).place ≡ p.base
 
 -- ---- one list
 

@@ -22,4 +22,4 @@ returns-in-Some-clause-need c =
 
 pub returns-in-None-clause-need : goal.returns-in-None-clause-need
 returns-in-None-clause-need c =
-    slides c.args.pool.now c.slide.new.pool c.args.at.now c.slide.new.at c.args.row c.args.bytes c.slide.result (c.args.bytes - block_bytes (dope_row c.args.pool.now c.args.at.now.table c.args.row)) c.requires.blocks.is_pool c.requires.behind c.in-None.ensures.none c.slide.ensures.moves.moves
+    slides c.args.pool.now c.slide.new.pool c.args.at.now c.slide.new.at c.args.row c.args.bytes c.slide.result (c.args.bytes - block_bytes (dope_row c.args.pool.now c.args.at.now.table c.args.row)) c.requires.blocks.is_pool c.requires.full c.requires.behind c.in-None.ensures.none c.slide.ensures.moves.moves

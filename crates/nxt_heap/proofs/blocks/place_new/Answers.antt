@@ -37,7 +37,7 @@ returns-in-None-clause-room c =
 pub returns-in-Some-clause-need : goal.returns-in-Some-clause-need
 returns-in-Some-clause-need c =
     let n = takes_hole c.args.pool.now c.args.at.now c.args.row c.args.bytes c.in-Some.place c.requires.blocks.is_pool c.requires.may.within c.requires.empty c.in-Some.ensures.some in
-    record { behind = n.behind; hole = n.hole; order = n.order }
+    record { behind = n.behind; hole = n.hole; order = n.order; front = n.front }
 
 pub returns-in-None-clause-need : goal.returns-in-None-clause-need
 returns-in-None-clause-need c =

@@ -1,6 +1,6 @@
 -- A list's elements and a group's members are lesser shapes, whose places are filled one behind another.
 use Rattle.std.proofs.Common.{◌≡◌, ◌<◌, refl, ap, sym, subst, ◌∙◌, arith}
-use Rattle.std.proofs.lemmas.Result.{IfOk-weaker, on_err_weaker}
+use Rattle.std.proofs.lemmas.Result.{IfOk-weaker, on_err_weaker, on_ok_weaker}
 use Rattle.nxt_types.specs.Shapes.{Number, Cluster, tree}
 use Rattle.nxt_types.specs.Names.{size}
 use Rattle.nxt_types.specs.Pool.{pool_size}
@@ -15,6 +15,7 @@ use Rattle.nxt_values.proofs.Laws.Needs.{on_err}
 use Rattle.nxt_values.proofs.Laws.Opened.{footprint_put}
 use Rattle.nxt_values.proofs.Laws.Steps.{number_filled, cluster_filled, elements_begin, elements_end, element_room, element_done, member_room, member_done, members_end, element_passed}
 use Rattle.nxt_values.proofs.Fill.Lists.{opened_room, opened_filled, opened_passed, list_passed}
+use Rattle.nxt_heap.proofs.Laws.Front.{front_same, front_then}
 use Rattle.nxt_heap.proofs.Laws.Moves.{rows_same, rows_then}
 use Rattle.nxt_values.proofs.Fill.NoLists.{none_ahead}
 use Rattle.nxt_values.proofs.writing.+fill.Goals as goal
@@ -49,7 +50,7 @@ fill-returns-in_ok-elements-in-List-clause-filled t c =
 -- ---- elements
 
 pub fill_elements-loop-k-init : goal.fill_elements-loop-k-init
-fill_elements-loop-k-init t c = (elements_begin c.requires.pool c.requires.room, λ none. rows_same c.args.heap.now.pool)
+fill_elements-loop-k-init t c = (elements_begin c.requires.pool c.requires.room, (λ none. rows_same c.args.heap.now.pool), front_same c.args.heap.now)
 
 pub fill_elements-fill-requires : goal.fill_elements-fill-requires
 fill_elements-fill-requires t c =
@@ -76,7 +77,8 @@ fill_elements-loop-k-preserved t c = (
       c.place.ensures
       c.in_ok-left.ensures.pool
       c.in_ok-left.ensures.filled,
-  λ none. rows_then c.args.heap.now.pool c.loop-k.heap.pool c.fill.new.heap.pool (c.loop-k.invariant.1 none) (c.in_ok-left.ensures.stays none),
+  (λ none. rows_then c.args.heap.now.pool c.loop-k.heap.pool c.fill.new.heap.pool (c.loop-k.invariant.1.0 none) (c.in_ok-left.ensures.stays none)),
+  front_then c.args.heap.now c.loop-k.heap c.fill.new.heap c.loop-k.invariant.1.1 c.in_ok-left.ensures.front,
 )
 
 pub fill_elements-returns-clause-filled : goal.fill_elements-returns-clause-filled
@@ -158,10 +160,11 @@ fill_ahead-loop-shape-preserved t c = (
   let step = c.in-Some.ensures in
       let left = rw (step.shapes, ← step.here) at c.loop-shape.invariant.0 in
       rw step.others (member_done left c.in_ok-left.ensures.pool c.in_ok-left.ensures.filled),
-  λ none.
-      let before = c.loop-shape.invariant.1 none in
+  (λ none.
+      let before = c.loop-shape.invariant.1.0 none in
       let two = none_ahead c.in-Some.ensures before.0 in
-      (two.1, rows_then c.args.heap.now.pool c.loop-shape.heap.pool c.fill.new.heap.pool before.1 (c.in_ok-left.ensures.stays two.0)),
+      (two.1, rows_then c.args.heap.now.pool c.loop-shape.heap.pool c.fill.new.heap.pool before.1 (c.in_ok-left.ensures.stays two.0))),
+  front_then c.args.heap.now c.loop-shape.heap c.fill.new.heap c.loop-shape.invariant.1.1 c.in_ok-left.ensures.front,
 )
 
 pub fill_ahead-returns-clause-filled : goal.fill_ahead-returns-clause-filled
@@ -193,3 +196,9 @@ fill_elements-returns-in_err-left-clause-passed t c =
     c.loop-k.invariant.0
     c.loop-k-test.true
     c.in_err-left.ensures.passed)
+
+-- ---- the table in front
+
+pub fill-returns-in_ok-elements-in-List-clause-front : goal.fill-returns-in_ok-elements-in-List-clause-front
+fill-returns-in_ok-elements-in-List-clause-front t c =
+    on_ok_weaker c.fill_elements.result (front_then c.args.heap.now c.open_list.new.heap c.fill_elements.new.heap c.in_ok-elements-in-List.ensures.front) c.fill_elements.ensures.front

@@ -1,7 +1,7 @@
 -- What is filled so far, and what is still to be filled.
 use Rattle.std.proofs.Common.{◌≡◌, ◌+◌, ◌*◌, false}
 use Rattle.nxt_types.specs.Shapes.{count, tree, has_list, some_list}
-use Rattle.nxt_heap.specs.Moves.{RowsStay}
+use Rattle.nxt_heap.specs.Moves.{KeepsFront, RowsStay}
 use Rattle.nxt_types.specs.Names.{size, sizes}
 use Rattle.nxt_values.specs.Ahead.{ahead}
 use Rattle.nxt_values.specs.Fills.{needs_for_all, needs_for_each, FillAllThere}
@@ -30,6 +30,7 @@ invariant-fill_elements-loop-k l =
     (needs_for_each l.fn.heap.lists (tree l.element) l.elements.count l.from)
     (λ f rest. FillsElements l.entries l.fn.heap.lists f (tree l.element) l.elements l.from rest)
     × (has_list (tree l.element) ≡ false → RowsStay l.fn.heap.pool l.heap.pool)
+    × KeepsFront l.fn.heap l.heap
 
 abbrev pub invariant-fill_ahead-loop-shape : goal.invariant-fill_ahead-loop-shape
 invariant-fill_ahead-loop-shape l =
@@ -44,6 +45,7 @@ invariant-fill_ahead-loop-shape l =
     (ahead l.members)
     l.members.first
     × (some_list (ahead all) ≡ false → (some_list (ahead l.members) ≡ false) × RowsStay l.fn.heap.pool l.heap.pool)
+    × KeepsFront l.fn.heap l.heap
 
 abbrev pub decreases-fill_ahead-loop-shape : goal.decreases-fill_ahead-loop-shape
 decreases-fill_ahead-loop-shape l = count (ahead l.members)

@@ -5,6 +5,7 @@ use Rattle.std.proofs.Math.Nat.{mul-mod_left}
 use Rattle.std.proofs.lemmas.Nat.{mul-le}
 use Rattle.nxt_types.specs.Pool.{pool_size, round4}
 use Rattle.nxt_heap.specs.Lists.{with_length, stride_of, of_length}
+use Rattle.nxt_heap.proofs.Laws.Front.{front_then}
 use Rattle.nxt_heap.proofs.Laws.Lengths.{length-of_length}
 use Rattle.nxt_values.specs.Held.{leaf_place}
 use Rattle.nxt_values.specs.Regions.{bytes_in}
@@ -84,3 +85,8 @@ returns-in_err-resize-clause-passed c =
     (λ m. pool_size < needs h 1 (round4 m))
     (length-of_length n [])
     (list_bytes_passed h k c.in_ok-row.row c.args.stride (of_length n []) _ c.in_ok-row.ensures.free made c.in_err-resize.ensures.passed))
+
+pub returns-clause-front : goal.returns-clause-front
+returns-clause-front c =
+    front_then c.args.heap.now c.new_array.new.self c.set_row.new.heap c.in_ok-row.ensures.front
+    (front_then c.new_array.new.self c.resize.new.self c.set_row.new.heap c.in_ok-resize.ensures.front c.set_row.ensures.front)

@@ -7,13 +7,14 @@ use Rattle.nxt_types.specs.Pool.{pool_size}
 use Rattle.nxt_heap.specs.Lists.{Passes, IsFree, footprint, with_list, with_free, with_free_row, empty_list}
 use Rattle.nxt_heap.specs.Inside.Pool.{Takes, IsRefused}
 use Rattle.nxt_heap.specs.declared.passed.PoolPassed.{PoolPassed}
-use Rattle.nxt_heap.proofs.Changed.{shown, after_taken, footprint_more, taken_fits}
+use Rattle.nxt_heap.proofs.Changed.{shown, after_taken, base_shown, footprint_more, sound_shown, still_heap, taken_fits}
+use Rattle.nxt_heap.proofs.Laws.Front.{front_taken}
 use Rattle.std.proofs.lemmas.Result.{on_ok_weaker}
 use Rattle.nxt_types.specs.Pool.{round4}
 use Rattle.nxt_rows.specs.Rows.{row_count}
 use Rattle.nxt_heap.specs.Lists.{base_of, any_free}
-use Rattle.nxt_heap.specs.Moves.{GrowsTable}
-use Rattle.nxt_heap.specs.Inside.Pool.{lists_in, pool_at}
+use Rattle.nxt_heap.specs.Moves.{GrowsTable, KeepsFront}
+use Rattle.nxt_heap.specs.Inside.Pool.{lists_in, pool_at, views_of}
 use Rattle.nxt_heap.proofs.ListsKept.{length-lists_in}
 use Rattle.nxt_heap.proofs.Seen.{length_static}
 use Rattle.nxt_heap.proofs.heap.Heap.new_array.Goals as goal
@@ -82,3 +83,28 @@ returns-clause-moves c =
     subst (λ h. GrowsTable (base_of h.lists) h.pool new (any_free h.lists.by_row) (round4 (10 * (length h.lists.by_row + 1)))) c.self.view_is
     (subst (λ m. GrowsTable (round4 (length (take n pool))) (pool_at pool p) new (any_free (lists_in pool p.table)) (round4 (10 * (m + 1)))) (sym (length-lists_in pool p.table))
     (subst (λ b. GrowsTable b (pool_at pool p) new (any_free (lists_in pool p.table)) (round4 (10 * (row_count pool p.table + 1)))) base g))) need)
+
+both : (r : Result ℕ PoolPassed) (P : ℕ → Type 0) (G Q : Type 0) → ((row : ℕ) → P row → G → Q) → IfOk r P → OnOk r G → OnOk r Q
+both (Ok row) P G Q f p g = f row p g
+both (Err e) P G Q f p g = tt
+
+pub returns-clause-front : goal.returns-clause-front
+returns-clause-front c =
+    let pool = c.self.inside.pool.items in
+    let fronts = c.self.inside.fronts.items in
+    let p = c.self.inside.state in
+    let q = c.new_list.new.at in
+    let n = c.self.inside.static_size in
+    let items = with_items_is c.self.inside.pool c.new_list.new.pool (c.new_list.auto.pool ∙ c.deref_mut.ensures.len) in
+    let old = views_of n (pool_at pool p) in
+    let new = views_of n (pool_at c.new_list.new.pool q) in
+    let bytes = round4 (10 * (row_count pool p.table + 1)) in
+    rw items
+    (both c.new_list.result (Takes pool c.new_list.new.pool c.new_list.new.fronts p q c.args.stride) (GrowsTable p.base old.pool new.pool (any_free old.lists.by_row) bytes) (KeepsFront c.args.self.now new)
+    (λ row t g.
+    subst (λ h. KeepsFront h new) c.self.view_is
+    (front_taken old new row c.args.stride bytes (sound_shown n pool fronts p c.self.invariant)
+    (sound_shown n c.new_list.new.pool c.new_list.new.fronts q (still_heap n pool c.new_list.new.pool fronts c.new_list.new.fronts p q c.self.invariant t.blocks t.base))
+    (after_taken n pool c.new_list.new.pool fronts c.new_list.new.fronts p q c.args.stride row c.self.invariant t)
+    (subst (λ b. GrowsTable b old.pool new.pool (any_free old.lists.by_row) bytes) (base_shown n pool fronts p c.self.invariant) g)))
+    (takes c) (rw c.deref_mut.ensures.value at c.new_list.ensures.need))

@@ -3,8 +3,9 @@ use Rattle.std.proofs.Common.{◌≡◌, None, ◌∙◌, length, take, sym, ap,
 use Rattle.nxt_types.specs.Pool.{round4, pool_size}
 use Rattle.nxt_compact.specs.Pools.{IsSound}
 use Rattle.nxt_heap.specs.Lists.{base_of}
-use Rattle.nxt_heap.specs.Dumps.{HoldHeap}
+use Rattle.nxt_heap.specs.Dumps.{HoldHeap, IsDopeTable}
 use Rattle.nxt_heap.proofs.Dumped.{pool_holds}
+use Rattle.nxt_heap.proofs.Tabled.{pool_dope_table}
 use Rattle.nxt_heap.proofs.ListsKept.{lists_in-at, list_in-first}
 use Rattle.nxt_heap.proofs.Seen.{length_static}
 use Rattle.nxt_heap.proofs.heap.Heap.recall_sound.Goals as goal
@@ -29,3 +30,7 @@ returns-clause-apart c =
 
 pub returns-clause-size : goal.returns-clause-size
 returns-clause-size c = subst (λ h. length h.pool.bytes ≡ pool_size) c.self.view_is c.self.invariant.blocks.is_pool.size
+
+pub returns-clause-table : goal.returns-clause-table
+returns-clause-table c =
+    subst (λ h. IsDopeTable h.pool.bytes h.pool.table h.lists) c.self.view_is (pool_dope_table c.self.inside.static_size c.self.inside.pool.items c.self.inside.fronts.items c.self.inside.state c.self.invariant)

@@ -5,10 +5,11 @@ use Rattle.nxt_compact.specs.Pools.{block_bytes}
 use Rattle.nxt_heap.specs.Lists.{footprint, with_length, bytes_at, stride_of}
 use Rattle.nxt_heap.specs.Inside.Pool.{row_bytes, HasLength}
 use Rattle.nxt_heap.proofs.Seen.{lives, list_row, row_inside, footprint_state}
-use Rattle.nxt_heap.proofs.Changed.{shown, still_heap, after_length, size_lived, footprint_length, length_same, footprint_inside, block_inside}
+use Rattle.nxt_heap.proofs.Changed.{base_shown, shown, sound_shown, still_heap, after_length, size_lived, footprint_length, length_same, footprint_inside, block_inside}
 use Rattle.nxt_heap.specs.Lists.{base_of}
-use Rattle.nxt_heap.specs.Moves.{MovesAtNeed}
-use Rattle.nxt_heap.specs.Inside.Pool.{pool_at}
+use Rattle.nxt_heap.specs.Moves.{KeepsFront, MovesAtNeed}
+use Rattle.nxt_heap.proofs.Laws.Front.{front_resized, front_same}
+use Rattle.nxt_heap.specs.Inside.Pool.{pool_at, views_of}
 use Rattle.nxt_heap.proofs.Needs.{unmoved}
 use Rattle.nxt_heap.proofs.Seen.{length_static}
 use Rattle.nxt_heap.proofs.Windows.{block_is}
@@ -185,3 +186,27 @@ returns-clause-shorter c fits =
     let new = pool_at c.resize_list.new.pool c.resize_list.new.at in
     let less : round4 c.args.bytes ≤ block_bytes (dope_row pool p.table c.args.row) = omega (arith, fits, size, seen, block_is (dope_row pool p.table c.args.row)) in
     rw items (subst (λ h. NoneMoves h.pool new) c.self.view_is ((rw c.deref_mut.ensures.value at c.resize_list.ensures.shorter) less))
+
+-- ---- the table in front
+
+pub returns-then-byte_count-bytes-clause-front : goal.returns-then-byte_count-bytes-clause-front
+returns-then-byte_count-bytes-clause-front c = front_same c.args.self.now
+
+pub returns-clause-front : goal.returns-clause-front
+returns-clause-front c =
+    let pool = c.self.inside.pool.items in
+    let fronts = c.self.inside.fronts.items in
+    let p = c.self.inside.state in
+    let q = c.resize_list.new.at in
+    let n = c.self.inside.static_size in
+    let items = with_items_is c.self.inside.pool c.resize_list.new.pool (c.resize_list.auto.pool ∙ c.deref_mut.ensures.len) in
+    let l = lives pool p.table c.args.row (rw (← c.self.view_is) at c.requires.alive) in
+    let old = views_of n (pool_at pool p) in
+    let new = views_of n (pool_at c.resize_list.new.pool q) in
+    let then = still_heap n pool c.resize_list.new.pool fronts c.resize_list.new.fronts p q c.self.invariant (has c).blocks (has c).base in
+    let need : MovesAtNeed p.base old.pool new.pool c.args.row (round4 c.args.bytes) = rw c.deref_mut.ensures.value at c.resize_list.ensures.need in
+    rw items
+    (subst (λ h. KeepsFront h new) c.self.view_is
+    (front_resized old new c.args.row c.args.bytes (round4 c.args.bytes) l.above (sound_shown n pool fronts p c.self.invariant) (sound_shown n c.resize_list.new.pool c.resize_list.new.fronts q then)
+    (after_length n pool c.resize_list.new.pool fronts c.resize_list.new.fronts p q c.args.row c.args.bytes c.self.invariant (has c))
+    (subst (λ b. MovesAtNeed b old.pool new.pool c.args.row (round4 c.args.bytes)) (base_shown n pool fronts p c.self.invariant) need)))
