@@ -77,8 +77,8 @@ fill_elements-loop-k-preserved t c = (
       c.place.ensures
       c.in_ok-left.ensures.pool
       c.in_ok-left.ensures.filled,
-  (λ none. rows_then c.args.heap.now.pool c.loop-k.heap.pool c.fill.new.heap.pool (c.loop-k.invariant.1.0 none) (c.in_ok-left.ensures.stays none)),
-  front_then c.args.heap.now c.loop-k.heap c.fill.new.heap c.loop-k.invariant.1.1 c.in_ok-left.ensures.front,
+  (λ none. rows_then c.args.heap.now.pool c.loop-k.heap.pool c.fill.new.heap.pool (c.loop-k.invariant.1 none) (c.in_ok-left.ensures.stays none)),
+  front_then c.args.heap.now c.loop-k.heap c.fill.new.heap c.loop-k.invariant.2 c.in_ok-left.ensures.front,
 )
 
 pub fill_elements-returns-clause-filled : goal.fill_elements-returns-clause-filled
@@ -161,10 +161,10 @@ fill_ahead-loop-shape-preserved t c = (
       let left = rw (step.shapes, ← step.here) at c.loop-shape.invariant.0 in
       rw step.others (member_done left c.in_ok-left.ensures.pool c.in_ok-left.ensures.filled),
   (λ none.
-      let before = c.loop-shape.invariant.1.0 none in
+      let before = c.loop-shape.invariant.1 none in
       let two = none_ahead c.in-Some.ensures before.0 in
       (two.1, rows_then c.args.heap.now.pool c.loop-shape.heap.pool c.fill.new.heap.pool before.1 (c.in_ok-left.ensures.stays two.0))),
-  front_then c.args.heap.now c.loop-shape.heap c.fill.new.heap c.loop-shape.invariant.1.1 c.in_ok-left.ensures.front,
+  front_then c.args.heap.now c.loop-shape.heap c.fill.new.heap c.loop-shape.invariant.2 c.in_ok-left.ensures.front,
 )
 
 pub fill_ahead-returns-clause-filled : goal.fill_ahead-returns-clause-filled

@@ -1,10 +1,13 @@
 -- The list keeps its row, and gets its bytes.
-use Rattle.std.proofs.Common.{◌≡◌, ◌≤◌, ◌*◌, length, refl, ap, sym, subst, ◌∙◌, arith}
+use Rattle.std.proofs.Common.{◌≡◌, ◌<◌, ◌≤◌, ◌*◌, length, refl, ap, sym, subst, ◌∙◌, arith}
 use Rattle.std.proofs.lemmas.Nat.{mul-le}
-use Rattle.nxt_heap.specs.Lists.{with_length, bytes_at}
+use Rattle.nxt_types.specs.Pool.{pool_size, round4}
+use Rattle.nxt_heap.specs.Lists.{Passes, bytes_at, of_length, with_length}
+use Rattle.nxt_heap.proofs.Laws.Lengths.{length-of_length}
 use Rattle.nxt_values.specs.Elements.{closed, row_there}
-use Rattle.nxt_values.specs.Fills.{IsOpened}
-use Rattle.nxt_values.proofs.Store.Kept.{list_reopened}
+use Rattle.nxt_values.specs.Fills.{IsOpened, needs}
+use Rattle.nxt_values.proofs.Laws.Needs.{list_bytes_passed, on_err}
+use Rattle.nxt_values.proofs.Store.Kept.{list_reopened, reopens}
 use Rattle.nxt_values.proofs.writing.reopen_list.Goals as goal
 
 pub returns-clause-opened : goal.returns-clause-opened
@@ -24,3 +27,17 @@ returns-clause-opened c =
 pub returns-clause-shorter : goal.returns-clause-shorter
 returns-clause-shorter c less =
     c.in_ok-resize.ensures.shorter (subst (λ r. c.args.count * c.args.stride ≤ length (bytes_at c.args.heap.now.lists r)) (sym c.list_row-row.ensures) less)
+
+pub returns-in_err-resize-clause-passed : goal.returns-in_err-resize-clause-passed
+returns-in_err-resize-clause-passed c =
+    let h = c.args.heap.now.lists in
+    let list = c.args.list in
+    let n = c.args.count * c.args.stride in
+    let row = row_there c.args.entries.now h list in
+    let before = closed c.args.entries.now h list in
+    let e = reopens c.args.entries.now h list c.args.stride n c.recall_sound.ensures.first c.requires.region c.requires.has in
+    let f = c.in_err-resize.field-0.0.0 in
+    let passed = subst (λ r. Passes (with_length h r n) f) c.list_row-row.ensures c.in_err-resize.ensures.passed in
+    on_err c.from_residual.result (pool_size < needs before 1 (round4 n))
+    (subst (λ m. pool_size < needs before 1 (round4 m)) (length-of_length n (bytes_at h row))
+    (list_bytes_passed before (with_length h row n) row c.args.stride (of_length n (bytes_at h row)) f e.free e.is passed))
