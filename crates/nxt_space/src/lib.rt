@@ -2,6 +2,7 @@
 #![tactic(auto)]
 
 pub mod fault;
+mod first;
 pub mod path;
 pub mod space;
 pub mod spots;

@@ -7,8 +7,8 @@ ghost use Rattle.nxt_types.specs.declared.kind.Kind.TheVariants.{Ubyte};
 ghost use Rattle.nxt_model.specs.Values.{lists_in, part as parts_value, number, elements};
 ghost use Rattle.nxt_model.specs.Footprint.{rows_for as rows_at_start};
 ghost use Rattle.nxt_types.specs.Pool.{pool_size};
-ghost use Rattle.nxt_heap.specs.Lists.{footprint, block_of};
-ghost use Rattle.nxt_heap.specs.Moves.{RowsStay, NoneMoves};
+ghost use Rattle.nxt_heap.specs.Lists.{base_of, footprint, block_of};
+ghost use Rattle.nxt_heap.specs.Moves.{IsPacked, RowsStay, NoneMoves};
 ghost use Rattle.nxt_values.specs.Regions.{IsRegion, HoldsThere, value_there};
 ghost use Rattle.nxt_values.specs.Writes.{emptied, rows_there, AreOwn, has_inner_list, KeepsRows};
 ghost use Rattle.nxt_values.specs.Elements.{GetsNoLonger};
@@ -239,10 +239,12 @@ pub fn rows_for(file_rows: u16, lists: u64) -> u16
     file_rows.max(lists as u16 + 1)
 }
 
-/// Fills a heap without lists with the variables that numbers spell.
+/// Fills a heap without lists with the variables that numbers spell, and closes the gaps between its blocks. Where its table
+/// stands in front and is long enough, it stays there.
 pub fn fill_start(heap: &mut Heap, toc: &Toc, variables: &[Shape], start: &[i64])
     requires { CanStart toc.now (members (map tree variables.now)) heap.old.lists start.now }
-    ensures { Stores toc.now heap.old.lists heap.new.lists (started_as toc.now.shapes start.now) }
+    ensures stores { Stores toc.now heap.old.lists heap.new.lists (started_as toc.now.shapes start.now) }
+    ensures packed { length heap.new.lists.by_row ≡ length heap.old.lists.by_row → heap.old.pool.table ≡ base_of heap.old.lists → IsPacked (base_of heap.new.lists) heap.new.pool }
 {
     let at = Place {
         region: Region::Static,
@@ -253,4 +255,5 @@ pub fn fill_start(heap: &mut Heap, toc: &Toc, variables: &[Shape], start: &[i64]
     prove!(filled.is_ok());
     let _rows = heap.row_count();
     heap.recall_sound();
+    heap.compact(u16::MAX);
 }
