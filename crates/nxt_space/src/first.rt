@@ -30,7 +30,12 @@ impl Model for FirstHeap {
 
 impl FirstHeap {
     /// What a heap holds now.
-    pub fn of(alloc: Global, heap: &Heap, static_size: u32, rows: u16) -> Result<FirstHeap, NoMemory>
+    pub fn of(
+        alloc: Global,
+        heap: &Heap,
+        static_size: u32,
+        rows: u16,
+    ) -> Result<FirstHeap, NoMemory>
         requires rows { 1 ≤ rows }
         requires fits { round4 static_size + round4 (10 * rows) ≤ pool_size }
         requires packed { IsPacked (base_of heap.now.lists) heap.now.pool }
