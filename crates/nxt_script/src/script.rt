@@ -1,6 +1,7 @@
 // A script that is read row by row.
 
-ghost use Rattle.std.specs.Prelude.{◌≡◌, ◌≢◌, ◌≤◌, ◌⊎◌, OnOk, Err};
+ghost use Rattle.std.specs.Prelude.{◌≡◌, ◌≢◌, ◌≤◌, ◌⊎◌, OnOk, Ok, Err, None};
+ghost use Rattle.std.specs.Io.KnownBytes.{IsAtEnd};
 ghost use Rattle.nxt_edge.specs.Edge.{Rose};
 ghost use Rattle.nxt_script.specs.Scripts.{IsOpen, NextOf, Ended, unread};
 ghost use Rattle.nxt_script.specs.Ahead.{HasEnded, TakesFew};
@@ -48,12 +49,14 @@ impl Script {
     }
 
     /// The next row; `None` at the script's end. The source is asked for 4,096 bytes at a time, and only while no whole line
-    /// was taken. After a fault each call answers that fault.
+    /// was taken; at the script's end it is at its own. After a fault each call answers that fault.
     pub fn next_row<Q: Source>(&mut self, source: &mut Q) -> Result<Option<ScriptRow>, ScriptFault>
         ensures next { NextOf self.old (Q.left source.old) self.new (Q.left source.new) result }
         ensures few { TakesFew self.old (Q.left source.old) self.new (Q.left source.new) result }
         ensures open { OnOk result (IsOpen self.new) }
         ensures over { HasEnded self.old → (source.new ≡ source.old) × (result ≢ Err ScriptFault.Failed) × OnOk result (HasEnded self.new) }
+        ensures done { result ≡ Ok None → HasEnded self.new }
+        ensures end { HasEnded self.new → HasEnded self.old ⊎ IsAtEnd (Q.left source.new) }
         ensures failed { result ≡ Err ScriptFault.Failed → (self.old ≡ Ended ScriptFault.Failed) ⊎ Rose (Q.faults source.old) (Q.faults source.new) }
         ensures later { Q.faults source.old ≤ Q.faults source.new }
     {
