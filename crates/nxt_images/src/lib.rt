@@ -1,7 +1,9 @@
 //! Programs told plainly, and the files that they are: what the tests build their files with.
 #![tactic(auto)]
 
-ghost use Rattle.std.specs.Prelude.{◌≡◌, ◌<◌, ◌^◌, length, IfOk, IsTrue};
+ghost use Rattle.std.specs.Prelude.{◌≡◌, ◌<◌, ◌^◌, ◌++◌, true, false, drop, length, slice_get, slice_index, Some, if◌then◌else◌, IfOk, IsTrue, OnOk};
+ghost use Rattle.nxt_types.specs.Opcodes.{has_comparison, op_of};
+ghost use Rattle.nxt_types.specs.Statements.{comparisons, long_form_of};
 ghost use Rattle.nxt_rxe.specs.Files.{HasCounts, HasDynamic, IsFile, dependent_count};
 ghost use Rattle.nxt_rxe.specs.declared.parts.Parts.{Parts as FileParts};
 ghost use Rattle.nxt_layout.specs.Layouts.{IsLayout};
@@ -91,7 +93,12 @@ pub struct Form<'a> {
 }
 
 /// The parts of a statement.
-pub fn form_of<'a>(statement: Statement<'a>) -> Result<Form<'a>, Fail> {
+pub fn form_of<'a>(statement: Statement<'a>) -> Result<Form<'a>, Fail>
+    ensures op { IfOk result (λ f. op_of (slice_index statement.now 0) ≡ Some f.op) }
+    ensures cmp { IfOk result (λ f. has_comparison f.op ≡ true → slice_get comparisons (slice_index statement.now 1) ≡ Some f.cmp) }
+    ensures plain { IfOk result (λ f. has_comparison f.op ≡ false → f.cmp ≡ Cmp.Lt) }
+    ensures operands { IfOk result (λ f. f.operands.now ≡ drop (if has_comparison f.op then 2 else 1) statement.now) }
+{
     let [code, rest @ ..] = statement else {
         return Err("it has no operation".into());
     };
@@ -116,7 +123,9 @@ pub fn append(words: &mut Words, statement: Statement) -> Result<(), Fail> {
 }
 
 /// The same of one that is told by its parts.
-pub fn append_form(words: &mut Words, statement: Form) -> Result<(), Fail> {
+pub fn append_form(words: &mut Words, statement: Form) -> Result<(), Fail>
+    ensures { OnOk result (words.new ≡ words.old ++ long_form_of statement.entry.op statement.entry.cmp statement.entry.operands.now) }
+{
     let Form { op, cmp, operands } = statement;
     if !op.has_comparison() && cmp != Cmp::Lt {
         return Err("it compares nothing".into());
