@@ -2,7 +2,7 @@
 //! text, events one by one, lines as they come, variables, and a dump of the pool. `docs/embedding.md` goes through it.
 #![tactic(auto)]
 
-use anyhow::{Result, anyhow};
+use anyhow::{Error, Result, anyhow};
 use nxt_machine::Machine;
 use nxt_model::event::Event;
 use nxt_model::line::Lines;
@@ -19,29 +19,47 @@ const MOST_PROGRAM: usize = 262_144;
 /// Bytecodes that are run at once.
 const AT_ONCE: u32 = 1_000;
 
+// The bytes of a file.
+fn read(rt: &HostRuntime, path: &str) -> Result<Vec<u8>> {
+    Ok(fs::read(rt, path)?)
+}
+
+fn refused() -> Error {
+    anyhow!("the program is refused, or there is no memory")
+}
+
+fn no_memory() -> Error {
+    anyhow!("no memory")
+}
+
 // The machine of the image in a file.
 fn machine_of_image(rt: &HostRuntime, path: &str) -> Result<Machine> {
-    let image = fs::read(rt, path)?;
-    accept(rt.alloc(), image.as_slice(), 0).map_err(|_| anyhow!("the image is refused"))
+    let image = read(rt, path)?;
+    accept(rt.alloc(), image.as_slice(), 0).map_err(|_| refused())
 }
 
 // The machine of the text in a file.
 fn machine_of_nbc(rt: &HostRuntime, path: &str) -> Result<Machine> {
-    let text = fs::read(rt, path)?;
+    let text = read(rt, path)?;
     if text.len() > MOST_PROGRAM {
         return Err(anyhow!("the text is too large"));
     }
-    machine_of_text(rt.alloc(), text.as_slice(), 0).map_err(|_| anyhow!("the text is refused"))
+    machine_of_text(rt.alloc(), text.as_slice(), 0).map_err(|_| refused())
+}
+
+// Prints bytes of a report.
+fn print_text(rt: &HostRuntime, text: &[u8]) -> Result<()> {
+    print!(rt; "{}", str::from_utf8(text).unwrap_or(""))?;
+    Ok(())
 }
 
 // Prints lines, as a report has them.
 fn print_lines(rt: &HostRuntime, lines: &Lines) -> Result<()> {
     let mut text = Bytes::new(rt.alloc());
     for line in lines.as_slice() {
-        line_text(line, &mut text).map_err(|_| anyhow!("no memory"))?;
+        line_text(line, &mut text).map_err(|_| no_memory())?;
     }
-    print!(rt; "{}", str::from_utf8(text.as_slice()).unwrap_or(""))?;
-    Ok(())
+    print_text(rt, text.as_slice())
 }
 
 // Gives the machine an event, and prints what it tells of it.
@@ -49,22 +67,27 @@ fn give(rt: &HostRuntime, machine: &mut Machine, event: &Event) -> Result<()> {
     let mut lines = Lines::new(rt.alloc());
     machine
         .event(rt.alloc(), event, &mut lines)
-        .map_err(|_| anyhow!("no memory"))?;
+        .map_err(|_| no_memory())?;
     print_lines(rt, &lines)
+}
+
+// Runs at most so many bytecodes, until one tells a line, and prints it. The answer is how many ran.
+fn run_on(rt: &HostRuntime, machine: &mut Machine, most: u32) -> Result<u32> {
+    let mut lines = Lines::new(rt.alloc());
+    let ran = machine
+        .run(rt.alloc(), most, &mut lines)
+        .map_err(|_| no_memory())?;
+    print_lines(rt, &lines)?;
+    Ok(ran)
 }
 
 // Runs bytecodes, and prints each line as it comes.
 fn run(rt: &HostRuntime, machine: &mut Machine) -> Result<()> {
     let mut left = AT_ONCE;
     for _ in 0..AT_ONCE {
-        let mut lines = Lines::new(rt.alloc());
-        let ran = machine
-            .run(rt.alloc(), left, &mut lines)
-            .map_err(|_| anyhow!("no memory"))?;
-        print_lines(rt, &lines)?;
-        left = left.saturating_sub(ran);
+        left = left.saturating_sub(run_on(rt, machine, left)?);
         if left == 0 {
-            return Ok(());
+            break;
         }
     }
     Ok(())
@@ -77,32 +100,36 @@ fn look(rt: &HostRuntime, machine: &mut Machine, scaled: i16) -> Result<()> {
     give(rt, machine, &Event::Tick(100))
 }
 
-// Prints how many numbers the list of an entry has.
-fn print_count(rt: &HostRuntime, space: &Space, entry: u16) -> Result<()> {
-    let count = match space.list_spot(entry) {
+// Prints a number, and what it is of.
+fn print_number(rt: &HostRuntime, of: &str, number: i64) -> Result<()> {
+    println!(rt; "{}: {}", of, number)?;
+    Ok(())
+}
+
+// How many numbers the list of an entry has.
+fn count_of(space: &Space, entry: u16) -> u32 {
+    match space.list_spot(entry) {
         Some(spot) => space.count(spot),
         None => 0,
-    };
-    println!(rt; "seen has {} numbers", count)?;
-    Ok(())
+    }
 }
 
-// The robot looks four times, 100 ms apart, while the light changes; what it keeps is read from its variables.
+// What the robot keeps is read from its variables.
+fn print_variables(rt: &HostRuntime, machine: &Machine) -> Result<()> {
+    let space = machine.space();
+    print_number(rt, "light", space.get(0))?;
+    print_number(rt, "numbers in seen", i64::from(count_of(space, 1)))?;
+    print_number(rt, "bytes of the pool", i64::from(machine.footprint()))
+}
+
+// The robot looks four times, 100 ms apart, while the light changes.
 fn brightest(rt: &HostRuntime) -> Result<()> {
     let mut machine = machine_of_nbc(rt, "brightest.nbc")?;
-    look(rt, &mut machine, 40)?;
-    look(rt, &mut machine, 61)?;
-    look(rt, &mut machine, 52)?;
-    look(rt, &mut machine, 47)?;
+    for scaled in [40, 61, 52, 47] {
+        look(rt, &mut machine, scaled)?;
+    }
     run(rt, &mut machine)?;
-    println!(rt; "light is {}", machine.space().get(0))?;
-    print_count(rt, machine.space(), 1)?;
-    print_footprint(rt, machine.footprint())
-}
-
-fn print_footprint(rt: &HostRuntime, bytes: u32) -> Result<()> {
-    println!(rt; "the variables take {} bytes of the pool", bytes)?;
-    Ok(())
+    print_variables(rt, &machine)
 }
 
 // An image's start, as its pool stands.
