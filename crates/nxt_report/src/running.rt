@@ -1,7 +1,7 @@
 // A script's rows on a machine, and the report.
 
-ghost use Rattle.std.specs.Prelude.{◌≡◌, ◌≤◌, ◌++◌, ◌∷◌, [], ℕ, List, OnOk, OnErr, IfOk, Some, Err, replicate, decimal};
-ghost use Rattle.std.specs.Io.KnownBytes.{Appends};
+ghost use Rattle.std.specs.Prelude.{◌≡◌, ◌≤◌, ◌++◌, ◌∷◌, [], ℕ, List, OnOk, OnErr, IfOk, Some, Ok, Err, replicate, decimal};
+ghost use Rattle.std.specs.Io.KnownBytes.{Appends, IsAtEnd};
 ghost use Rattle.nxt_edge.specs.Edge.{Rose, AppendsFront};
 ghost use Rattle.nxt_model.specs.LineText.{line_of};
 ghost use Rattle.nxt_model.specs.Step.{events_of};
@@ -111,6 +111,9 @@ pub fn run_script<Q: Source, R: Sink>(
     ensures cut { (s : List ℕ) → Q.left source.old ≡ Some s → result ≡ Err Fault.Read
         → CutText machine.old s (Q.left source.old) (Q.left source.new) (R.written report.old) (R.written report.new) }
     ensures end { IfOk result IsRunEnd }
+
+    // After the last row the script's source is at its end.
+    ensures done { result ≡ Ok Status.Done → IsAtEnd (Q.left source.new) }
     ensures read { result ≡ Err Fault.Read → Rose (Q.faults source.old) (Q.faults source.new) }
     ensures write { result ≡ Err Fault.Write → Rose (R.faults report.old) (R.faults report.new) }
     ensures source { Q.faults source.old ≤ Q.faults source.new }

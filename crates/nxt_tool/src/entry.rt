@@ -1,4 +1,5 @@
 ghost use Rattle.std.specs.Prelude.{◌≡◌, ◌⊎◌, ◌↔◌, ℕ, ◌≤◌, List, [], Option, Some, None, length, IfOk, MatchResult};
+ghost use Rattle.std.specs.Io.KnownBytes.{IsAtEnd};
 ghost use Rattle.nxt_edge.specs.Edge.{Rose, AreBytes};
 ghost use Rattle.nxt_tool.specs.Due.{Answer, Ended, Meets, read_status, fault_status, assembled_answer, refused_answer, described_answer, Runs, Describes, Assembles, Generated, Due, UsesProgram, ReadsScript, UsesScript, Accepts, Images, MayReadScript, MayWriteImage, Answers, IsQuiet, NotRefused};
 ghost use Rattle.nxt_report.specs.Cut.{CutText};
@@ -8,6 +9,7 @@ ghost use Rattle.nxt_tool.specs.Cut.{CutRun};
 ghost use Rattle.nxt_tool.specs.Words.{command_of, texts_of};
 ghost use Rattle.nxt_tool.specs.declared.words.Command.{Command};
 ghost use Rattle.nxt_tool.specs.declared.words.Command.TheVariants.{Run};
+ghost use Rattle.nxt_tool.specs.declared.words.Language.{Language as ProgramLanguage};
 ghost use Rattle.nxt_tool.specs.Programs.{HasProgramCause, IsProgramOf};
 ghost use Rattle.nxt_model.specs.Image.{program_of};
 ghost use Rattle.nxt_model.specs.Program.{start};
@@ -59,6 +61,7 @@ fn run_program<Q: Source, R: Sink>(
     ensures script { Q.faults script.old ≤ Q.faults script.new }
     ensures report { R.faults report.old ≤ R.faults report.new }
     ensures accepted { NotRefused result }
+    ensures done { result ≡ Status.Done → IsAtEnd (Q.left script.new) }
 {
     let mut machine = machine;
     match run_script(alloc, &mut machine, script, report) {
@@ -70,6 +73,7 @@ fn run_program<Q: Source, R: Sink>(
 // Writes the line of a refused program.
 fn refuse<R: Sink>(alloc: Global, refusal: Refusal, report: &mut R) -> Status
     ensures told { Meets result (refused_answer refusal) (R.written report.old) (R.written report.new) }
+    ensures refused { result ≡ Status.Done → ⊥ }
     ensures write { result ≡ Status.WriteFault → Rose (R.faults report.old) (R.faults report.new) }
     ensures report { R.faults report.old ≤ R.faults report.new }
     ensures only { (result ≡ Status.ReadFault → ⊥) × (result ≡ Status.Words → ⊥) }
@@ -115,6 +119,7 @@ fn run<P: Source, Q: Source, R: Sink>(
     ensures read { result ≡ Status.ReadFault → Rose (P.faults program.old) (P.faults program.new) ⊎ (Accepts (Run language effort) (P.left program.old) × Rose (Q.faults script.old) (Q.faults script.new)) }
     ensures write { result ≡ Status.WriteFault → Rose (R.faults report.old) (R.faults report.new) }
     ensures unread { (Accepts (Run language effort) (P.left program.old) → ⊥) → script.new ≡ script.old }
+    ensures done { result ≡ Status.Done → IsAtEnd (Q.left script.new) }
     ensures words { result ≡ Status.Words → ⊥ }
     ensures later { (P.faults program.old ≤ P.faults program.new) × (Q.faults script.old ≤ Q.faults script.new) × (R.faults report.old ≤ R.faults report.new) }
 {
@@ -230,6 +235,7 @@ fn answer<P: Source, Q: Source, I: Sink, R: Sink>(
         → (a : Answer) × Due (texts_of words.now) b s a × Answers result a (I.written image.old) (I.written image.new) (R.written report.old) (R.written report.new) }
     ensures cut { (b s : List ℕ) → P.left program.old ≡ Some b → UsesScript (texts_of words.now) b → Q.left script.old ≡ Some s → result ≡ Status.ReadFault
         → (c : Command) × (command_of (texts_of words.now) ≡ Some c) × CutRun c b s (Q.left script.old) (Q.left script.new) (R.written report.old) (R.written report.new) }
+    ensures done { (l : ProgramLanguage) (effort : ℕ) → command_of (texts_of words.now) ≡ Some (Run l effort) → result ≡ Status.Done → IsAtEnd (Q.left script.new) }
     ensures words { (result ≡ Status.Words) ↔ (command_of (texts_of words.now) ≡ None) }
     ensures read { result ≡ Status.ReadFault → Rose (P.faults program.old) (P.faults program.new) ⊎ (MayReadScript (texts_of words.now) (P.left program.old) × Rose (Q.faults script.old) (Q.faults script.new)) }
     ensures write { result ≡ Status.WriteFault → Rose (R.faults report.old) (R.faults report.new) ⊎ (MayWriteImage (texts_of words.now) (P.left program.old) × Rose (I.faults image.old) (I.faults image.new)) }
@@ -293,6 +299,9 @@ pub fn nxt<P: Source, Q: Source, I: Sink, R: Sink>(
     // above 8,192 bytes before the last byte that was taken; so a bad row that ends there is told, and not the fault.
     ensures cut { (b s : List ℕ) → P.left program.old ≡ Some b → UsesScript (texts_of words.now) b → Q.left script.old ≡ Some s → result ≡ Status.ReadFault
         → (c : Command) × (command_of (texts_of words.now) ≡ Some c) × CutRun c b s (Q.left script.old) (Q.left script.new) (R.written report.old) (R.written report.new) }
+
+    // Where a script's rows ran to the end, its source is at its end.
+    ensures done { (l : ProgramLanguage) (effort : ℕ) → command_of (texts_of words.now) ≡ Some (Run l effort) → result ≡ Status.Done → IsAtEnd (Q.left script.new) }
 
     // The words alone decide whether they have a form.
     ensures words { (result ≡ Status.Words) ↔ (command_of (texts_of words.now) ≡ None) }

@@ -8,8 +8,10 @@ use Rattle.nxt_edge.specs.Edge.{AppendsFront, AreBytes}
 use Rattle.nxt_edge.specs.declared.read_write.ReadAllFault.{ReadAllFault}
 use Rattle.nxt_edge.specs.declared.read_write.ReadAllFault.TheVariants.{Failed, TooLarge, NoMemory}
 use Rattle.nxt_edge.proofs.Laws.{Appends-none}
+use Rattle.nxt_report.specs.declared.writing.Fault.{Fault}
+use Rattle.nxt_report.specs.declared.writing.Fault.TheVariants as faults
 use Rattle.nxt_model.specs.Image.{Image}
-use Rattle.nxt_tool.specs.Due.{Answer, answer, Meets, RunOn, read_status, refused_answer, described_answer, OnImage, Runs, DescribedFile, Describes, DueTo, Due, Answers}
+use Rattle.nxt_tool.specs.Due.{Answer, answer, Meets, RunOn, fault_status, read_status, refused_answer, described_answer, OnImage, Runs, DescribedFile, Describes, DueTo, Due, Answers}
 use Rattle.nxt_tool.specs.declared.words.Command.{Command}
 use Rattle.nxt_tool.specs.declared.words.Description.{Description}
 use Rattle.nxt_tool.specs.declared.words.Description.TheVariants.{Footprint, Listing}
@@ -241,3 +243,15 @@ due_to words command program script a form due = subst (λ o. DueTo o program sc
 
 pub no_words_answer : (image report : Option (List ℕ)) → Answers status.Words (answer status.Words [] []) image image report report
 no_words_answer image report = record { report_text = (refl, Appends-none report); image_text = (refl, Appends-none image); in_turn = inl (Appends-none report) }
+
+-- ---- no fault is an end
+
+pub fault_not_done : (f : Fault) → fault_status f ≡ status.Done → ⊥
+fault_not_done faults.Read e = cc
+fault_not_done faults.Write e = cc
+fault_not_done faults.NoMemory e = cc
+
+pub read_not_done : (f : ReadAllFault) → read_status f ≡ status.Done → ⊥
+read_not_done Failed e = cc
+read_not_done TooLarge e = cc
+read_not_done NoMemory e = cc

@@ -1,8 +1,8 @@
 -- Row by row, and the end.
-use Rattle.std.proofs.Common.{◌≡◌, ◌+◌, ◌++◌, ◌∙◌, ℕ, List, [], Bool, false, true, Option, Result, Ok, Err, refl, sym, ap, subst, arith, inl, inr}
+use Rattle.std.proofs.Common.{◌≡◌, ◌+◌, ◌++◌, ◌∙◌, ◌⊎◌, ℕ, List, [], Bool, false, true, Option, Result, Ok, Err, refl, sym, ap, subst, arith, inl, inr}
 use Rattle.std.proofs.lemmas.List.{append-nil}
 use Rattle.std.specs.Prelude.{IfOk, OnOk, OnErr}
-use Rattle.std.specs.Io.KnownBytes.{Appends}
+use Rattle.std.specs.Io.KnownBytes.{Appends, IsAtEnd}
 use Rattle.nxt_edge.specs.Edge.{AppendsFront}
 use Rattle.nxt_edge.proofs.Laws.{Front-whole}
 use Rattle.nxt_machine.specs.Machines.{MachineViews}
@@ -22,6 +22,13 @@ use Rattle.nxt_report.proofs.Rows.{RowsRan, all_ran, broke_off, none_ran, one_mo
 use Rattle.nxt_report.proofs.Scripts.{gives_row, row_known, end_known, bad_known, many_known, large_known}
 use Rattle.nxt_report.proofs.running.run_script.Goals as goal
 
+-- a source that has ended isn't asked again
+at_end : {S A B : Type 0} {now before : S} (left : S → Option (List ℕ)) → (A → B ⊎ IsAtEnd (left now)) → (B → now ≡ before) → (B → IsAtEnd (left before)) → A → IsAtEnd (left now)
+at_end left either same was over = elim (either over) [
+  | inl earlier ↦ subst (λ s. IsAtEnd (left s)) (sym (same earlier)) (was earlier)
+  | inr now ↦ now
+]
+
 pub loop-row-init : goal.loop-row-init
 loop-row-init g c = record {
   told = λ s e. (
@@ -33,6 +40,7 @@ loop-row-init g c = record {
     subst (λ t. Wrote (g.R.Sink.written c.args.report.now) (g.R.Sink.written c.args.report.now) [] t) (sym c.new-gathered.ensures) (Wrote-start (g.R.Sink.written c.args.report.now) []),
   );
   took = subst (λ (x : Seen). Took x (g.Q.Source.left c.args.source.now) (g.Q.Source.left c.args.source.now) 0) (sym c.new-script.ensures) (Took-none (g.Q.Source.left c.args.source.now));
+  ended = λ over. let none : false ≡ true = subst HasEnded c.new-script.ensures over in let f : ⊥ = cc in absurd f;
   open_yet = subst IsOpen (sym c.new-script.ensures) tt;
   given = ap rows_given c.new-script.ensures;
   few = omega arith;
@@ -74,6 +82,7 @@ loop-row-preserved g c =
       took = Took-row c.loop-row.script c.next_row.new.self _ _ _ c.loop-row.rows is.took is.open_yet row
           (subst (TakesFew c.loop-row.script (g.Q.Source.left c.loop-row.source) c.next_row.new.self (g.Q.Source.left c.next_row.new.source)) same c.next_row.ensures.few)
           (λ ended. subst (λ r. OnOk r (HasEnded c.next_row.new.self)) same (c.next_row.ensures.over ended).2);
+      ended = at_end g.Q.Source.left c.next_row.ensures.end (λ over. (c.next_row.ensures.over over).0) is.ended;
       open_yet = c.in-Ok-Some.ensures.open;
       given = given.given ∙ ap (λ n. n + 1) is.given;
       few = let few = given.few in let same = given.given in let before = is.given in omega (arith, few, same, before);
@@ -82,6 +91,10 @@ loop-row-preserved g c =
     }
 
 -- ---- ends
+
+pub returns-in-Ok-None-clause-done : goal.returns-in-Ok-None-clause-done
+returns-in-Ok-None-clause-done g c done =
+    at_end g.Q.Source.left c.next_row.ensures.end (λ over. (c.next_row.ensures.over over).0) c.loop-row.invariant.ended (c.next_row.ensures.done (c.in-Ok-None.is ∙ ap Ok c.in-Ok-None.field-0-is))
 
 -- the end that is met tells the status
 ended : (r : Result Status Fault) (st : Status) (e whole : End) → IfOk r (λ x. x ≡ st) → st ≡ status_of e → e ≡ whole → IfOk r (λ x. x ≡ status_of whole)

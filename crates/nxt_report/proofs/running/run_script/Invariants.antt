@@ -1,5 +1,7 @@
 -- The rows that ran have told a text, of which some is written and the rest is gathered.
 use Rattle.std.proofs.Common.{◌≡◌, ◌≤◌, ◌-◌, ℕ, List, Some}
+use Rattle.std.specs.Io.KnownBytes.{IsAtEnd}
+use Rattle.nxt_script.specs.Ahead.{HasEnded}
 use Rattle.nxt_script.specs.Rows.{Listing, rows}
 use Rattle.nxt_script.specs.Scripts.{to_come, rows_given, IsOpen}
 use Rattle.nxt_report.specs.Writing.{Wrote}
@@ -16,6 +18,7 @@ invariant-loop-row g l = record {
       × RowsRan l.initial.machine l.machine (rows s).rows rest.rows l.rows text
       × Wrote (g.R.Sink.written l.initial.report) (g.R.Sink.written l.report) text l.gathered;
   took : Took l.script (g.Q.Source.left l.initial.source) (g.Q.Source.left l.source) l.rows;
+  ended : HasEnded l.script → IsAtEnd (g.Q.Source.left l.source);
   open_yet : IsOpen l.script;
   given : rows_given l.script ≡ l.rows;
   few : l.rows ≤ 100000;

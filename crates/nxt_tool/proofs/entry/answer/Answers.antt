@@ -104,3 +104,8 @@ returns-in-Some-Generate-clause-cut g c = λ b s program uses script failed.
     let words = texts_of c.args.words.now in
     let form : command_of words ≡ Some (Generate c.in-Some-Generate.number) = search rules in
     absurd (reads_as words b (Generate c.in-Some-Generate.number) form uses)
+
+-- ---- the end of the script
+
+pub returns-in-Some-Run-clause-done : goal.returns-in-Some-Run-clause-done
+returns-in-Some-Run-clause-done g c l effort form done = c.run.ensures.done done

@@ -1,5 +1,5 @@
 -- What is due to a program, by how far it was read.
-use Rattle.std.proofs.Common.{◌≡◌, inr, ℕ, ◌≤◌, ◌∙◌, List, Option, Some, None, Err, refl, ap, subst, length}
+use Rattle.std.proofs.Common.{◌≡◌, inr, ℕ, ◌≤◌, ◌∙◌, List, Option, Some, None, Err, refl, sym, ap, subst, length}
 use Rattle.nxt_edge.proofs.Laws.{Consumes-longer}
 use Rattle.nxt_model.specs.Image.{Image}
 use Rattle.nxt_tool.specs.Due.{Accepts, AcceptsProgram, refused_answer}
@@ -10,7 +10,7 @@ use Rattle.nxt_tool.specs.declared.words.Language.{Language}
 use Rattle.nxt_tool.proofs.Reports.CutRuns.{cut_image}
 use Rattle.nxt_tool.proofs.Reports.Ends.{due}
 use Rattle.nxt_tool.proofs.Reports.Programs.{cut_program, no_memory_program, program_goes_on, ran_program, reads_program, refused_program, uncut_program, unread_program}
-use Rattle.nxt_tool.proofs.Reports.Statuses.{long_list, read_is}
+use Rattle.nxt_tool.proofs.Reports.Statuses.{long_list, read_is, read_not_done}
 use Rattle.nxt_tool.proofs.entry.run.Goals as goal
 
 pub returns-in-Err-clause-told : goal.returns-in-Err-clause-told
@@ -86,3 +86,11 @@ returns-in-Err-NoMemory-clause-cut g c = λ b s program reads script failed. abs
 
 pub returns-clause-cut : goal.returns-clause-cut
 returns-clause-cut g c = λ b s program reads script failed. absurd (c.refuse.ensures.only.0 failed)
+
+-- ---- the end of the script
+
+pub returns-in-Err-clause-done : goal.returns-in-Err-clause-done
+returns-in-Err-clause-done g c done = absurd (read_not_done c.in-Err.fault (sym c.of_read.ensures ∙ done))
+
+pub returns-clause-done : goal.returns-clause-done
+returns-clause-done g c done = absurd (c.refuse.ensures.refused done)

@@ -1,10 +1,11 @@
 -- How a script's run ended.
-use Rattle.std.proofs.Common.{◌≡◌, Err, refl, sym, ap, ◌∙◌, subst}
+use Rattle.std.proofs.Common.{◌≡◌, Ok, Err, refl, sym, ap, ◌∙◌, subst}
 use Rattle.nxt_report.specs.Statuses.{IsRunEnd}
 use Rattle.nxt_report.specs.declared.status.Status.TheVariants as status
 use Rattle.nxt_report.specs.declared.writing.Fault.{Fault}
 use Rattle.nxt_report.specs.declared.writing.Fault.TheVariants as faults
 use Rattle.nxt_tool.specs.Due.{fault_status}
+use Rattle.nxt_tool.proofs.Reports.Statuses.{fault_not_done}
 use Rattle.nxt_tool.proofs.entry.run_program.Goals as goal
 
 pub returns-in-Ok-clause-told : goal.returns-in-Ok-clause-told
@@ -31,3 +32,11 @@ returns-in-Ok-clause-cut g c = λ s e failed. absurd (subst IsRunEnd failed c.in
 
 pub returns-clause-cut : goal.returns-clause-cut
 returns-clause-cut g c = λ s e failed. c.in-Err.ensures.cut s e (ap Err (fault_is_read c.in-Err.fault (sym c.of_fault.ensures ∙ failed)))
+
+-- ---- the end of the script
+
+pub returns-in-Ok-clause-done : goal.returns-in-Ok-clause-done
+returns-in-Ok-clause-done g c done = c.in-Ok.ensures.done (ap Ok done)
+
+pub returns-clause-done : goal.returns-clause-done
+returns-clause-done g c done = absurd (fault_not_done c.in-Err.fault (sym c.of_fault.ensures ∙ done))
