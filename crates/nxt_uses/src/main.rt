@@ -13,8 +13,8 @@ use nxt_types::Bytes;
 use std::fs;
 use std::process::ExitCode;
 
-/// The greatest size of a program, in bytes.
-const MOST_PROGRAM: usize = 262_144;
+/// The greatest text that `machine_of_text` takes, in bytes.
+const MOST_TEXT: usize = 16_777_216;
 
 /// Bytecodes that are run at once.
 const AT_ONCE: u32 = 1_000;
@@ -41,7 +41,7 @@ fn machine_of_image(rt: &HostRuntime, path: &str) -> Result<Machine> {
 // The machine of the text in a file.
 fn machine_of_nbc(rt: &HostRuntime, path: &str) -> Result<Machine> {
     let text = read(rt, path)?;
-    if text.len() > MOST_PROGRAM {
+    if text.len() > MOST_TEXT {
         return Err(anyhow!("the text is too large"));
     }
     machine_of_text(rt.alloc(), text.as_slice(), 0).map_err(|_| refused())
