@@ -8,16 +8,16 @@ pub mod Perhaps
 pub mod Forms
 -- The forms of every text's lines and blocks.
 pub mod Lines
+-- The structs of a text: their members have types of structs before them.
+pub mod Types
 -- The parts that names of members lead to have entries among those of the whole.
 pub mod Paths
--- The structs of a text: their lines rise, their names are free, and their members have their shapes among all of them.
-pub mod Types
--- The structs of NXTDefs.h: they stand on one line, no type of numbers has their names, and their members have their shapes.
-pub mod Header
 -- What the lines of a text keep, where no rule is broken.
 pub mod Kept
 -- Starts that have the forms of their types.
 pub mod Starts
+-- What holds of parts, blocks, numbers, types and what is missing holds of all that names stand for.
+pub mod Denoted
 -- What operands name is declared, with an entry among the variable's own.
 pub mod Named
 -- Immediates and numbers of blocks have as many bits as their types.

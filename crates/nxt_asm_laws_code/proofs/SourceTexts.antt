@@ -8,15 +8,13 @@ use Rattle.nxt_model.specs.Nbc.NbcRules as text_rules
 use Rattle.nxt_model.specs.Nbc.NbcRules.{TextFault, Lex, NoMain, Syntax, at_line, has_large_type, has_wrong_text, is_at, tells}
 use Rattle.nxt_model.specs.Nbc.Text.{Source, Block, is_main, program_of, source_of}
 use Rattle.nxt_model.specs.Nbc.Tokens.{Token, lines_of, tokens_of}
-use Rattle.nxt_model.specs.Nbc.Types.{types_at}
 use Rattle.nxt_nbc_lines.specs.Firsts.{Ascends}
 use Rattle.nxt_nbc_lines.proofs.Laws.Ascending.{forms_ascend}
 use Rattle.nxt_asm_laws.proofs.Laws.Dependents.{length-program_of}
 use Rattle.nxt_asm_laws.proofs.Laws.Forms.{LineFormed}
-use Rattle.nxt_asm_laws.proofs.Laws.Kept.{lines_kept}
 use Rattle.nxt_asm_laws.proofs.Laws.Lines.{each_formed}
 use Rattle.nxt_asm_laws.proofs.Laws.Lists.{Each}
-use Rattle.nxt_asm_laws.proofs.Laws.Source.{types_have, types_plain, variables_typed}
+use Rattle.nxt_asm_laws.proofs.Laws.Types.{types_ordered}
 use Rattle.nxt_asm_laws_code.specs.Lines.{IsGood}
 use Rattle.nxt_asm_laws_code.proofs.SourceForms.{blocks_good, no_bad}
 use Rattle.nxt_asm_laws_code.proofs.SourceLines.{blocks_kept, numbered_kept}
@@ -51,13 +49,11 @@ module _ (fd : Formed) (told : (f : TextFault) → tells fd f ≡ false) (up : A
   none_bad : (line : ℕ) → is_at line fd.bad ≡ false
   none_bad line =
       (or_parts (is_at line fd.bad)
-      (list_any (λ f. has_large_type (types_at src.types line) f || has_wrong_text (types_at src.types line) f) (at_line line fd.forms)) (told (Syntax line))).0
+      (list_any (λ f. has_large_type src.types line f || has_wrong_text src.types line f) (at_line line fd.forms)) (told (Syntax line))).0
 
   -- what terms stand for, and what is known of the blocks
   pub parts_known : (line : ℕ) (t : Term) → HasPart src (denoted src line t)
-  parts_known =
-      let kept = lines_kept fd told in
-      term_part src (types_plain fd.forms kept up) (types_have fd.forms kept up) (variables_typed fd.forms kept up)
+  parts_known = term_part src (types_ordered fd.forms)
 
   pub blocks_known : Each IsGood src.blocks → Each (IsKeptAt src) (numbered src)
   blocks_known good = numbered_kept src (blocks_kept fd told whole good)

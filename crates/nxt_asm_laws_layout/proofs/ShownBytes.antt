@@ -1,6 +1,6 @@
 -- The texts between quotes, as starts and as operands, are of shown bytes.
 use Rattle.std.proofs.Common.{◌≡◌, ℕ, Bool, true, false, List, [], ◌∷◌, map, filter, flat_map, Option, Some, None, Ok, subst, length}
-use Rattle.std.specs.Prelude.{⊤, ℤ, if◌then◌else◌, nat_abs, not, option_and_then, slice_get, zip}
+use Rattle.std.specs.Prelude.{⊤, ℤ, if◌then◌else◌, nat_abs, not, slice_get, zip}
 use Rattle.std.proofs.lemmas.Option.{none-some, same_Some}
 use Rattle.nxt_types.specs.Arithmetic.{cut}
 use Rattle.nxt_types.specs.Opcodes.{classes}
@@ -17,10 +17,12 @@ use Rattle.nxt_model.specs.declared.nbc.NbcStatement.{NbcStatement}
 use Rattle.nxt_model.specs.Nbc.Tokens.{Token, lines_of, tokens_of}
 use Rattle.nxt_model.specs.Nbc.Forms as forms
 use Rattle.nxt_model.specs.Nbc.Forms.{Form, Term, Named, Literal, Quote, formed}
-use Rattle.nxt_model.specs.Nbc.Text.{Source, Variable, Block, Denoted, ANumber, AText, LabelAt, arg_of, args_of, block_at, block_named, blocks_in, by_variable, denoted, denoted_arg, dependents_of, ending, is_left_out, is_main, is_struct_at, is_word, items_of, label_arg, labels_from, member_of, named_block, number_arg, number_named, numbered, ordered, other_name, path_in, program_block, program_of, returning, source_of, statement, statements_in, types_of, variable_named, variable_of}
+use Rattle.nxt_model.specs.Nbc.Text.{Source, Variable, Block, Denoted, ANumber, AText, LabelAt, arg_of, args_of, blocks_in, denoted, denoted_arg, dependents_of, ending, is_left_out, is_main, is_word, items_of, label_arg, labels_from, member_of, named_block, number_arg, numbered, ordered, path_in, program_block, program_of, returning, source_of, statement, statements_in, variable_named, variable_of, a_block, a_variable, block_by, by_sort, sort_named, NameSort}
+use Rattle.nxt_model.specs.Nbc.Structs.{types_of}
 use Rattle.nxt_model.specs.Nbc.Types.{Found, Struct, member_path}
 use Rattle.nxt_model.specs.TextProgram.{all_args}
 use Rattle.nxt_facts.proofs.Each.{Each, each_filter, each_flat, each_from, each_join, each_mapped, each_then}
+use Rattle.nxt_asm_laws.proofs.Laws.Denoted.{name_has}
 use Rattle.nxt_asm_laws.proofs.Laws.Lists.{each_given, each_numbered, each_weaker}
 use Rattle.nxt_asm_laws_layout.proofs.TextValues.{ArgBytes, AreSmallBytes, GivenBytes}
 use Rattle.nxt_asm_laws_layout.proofs.ShownWords.{lines_ok}
@@ -61,27 +63,24 @@ path_denoted : (src : Source) (i : ℕ) (ns : List (List ℕ)) (o : Option Varia
 path_denoted src i ns None = tt
 path_denoted src i ns (Some v) = member_denoted src i (member_path src.types v.type ns)
 
-other_denoted : (n : Option ℕ) (b : Option Block) (k : Option ℕ) (t : Bool) (ns : List (List ℕ)) → DenotedOk (other_name n b k t ns)
-other_denoted n b k t (m ∷ ms) = tt
-other_denoted (Some n) b k t [] = tt
-other_denoted None (Some b) (Some k) t [] = tt
-other_denoted None (Some b) None true [] = tt
-other_denoted None (Some b) None false [] = tt
-other_denoted None None k true [] = tt
-other_denoted None None k false [] = tt
+block_denoted : (o : Option (ℕ × Bool)) → DenotedOk (a_block o)
+block_denoted None = tt
+block_denoted (Some b) = tt
 
 module _ (src : Source) where
-  variable_denoted : (line : ℕ) (o : Option ℕ) (name : List ℕ) (ns : List (List ℕ)) → DenotedOk (by_variable src line o name ns)
-  variable_denoted line (Some i) name ns = path_denoted src i ns (slice_get src.vars i)
-  variable_denoted line None name ns =
-      let k = block_named src name in
-      other_denoted (number_named src line name) (option_and_then (block_at src) k) k (is_struct_at src line name) ns
+  variable_denoted : (o : Option ℕ) (ns : List (List ℕ)) → DenotedOk (a_variable src o ns)
+  variable_denoted None ns = tt
+  variable_denoted (Some i) ns = path_denoted src i ns (slice_get src.vars i)
+
+  sort_denoted : (line : ℕ) (o : Option NameSort) (name : List ℕ) (ns : List (List ℕ)) → DenotedOk (by_sort src line o name ns)
+  sort_denoted line o name ns =
+      name_has (λ _ d. DenotedOk d) (λ _. tt) tt (λ n. tt) src line name ns (variable_denoted (variable_named src name) ns) (block_denoted (block_by src name)) o
 
   term_denoted : (line : ℕ) (t : Term) → TermOk t → DenotedOk (denoted src line t)
   term_denoted line (Literal z) h = tt
   term_denoted line (Quote s) h = h
   term_denoted line (Named []) h = tt
-  term_denoted line (Named (n ∷ ns)) h = variable_denoted line (variable_named src n) n ns
+  term_denoted line (Named (n ∷ ns)) h = sort_denoted line (sort_named src n) n ns
 
   arg_ok : (ls : List LabelAt) (line : ℕ) (c : Class) (t : Term) → TermOk t → ArgBytes (arg_of src ls line c t)
   arg_ok ls line OptionalOut t h =
@@ -169,7 +168,7 @@ all_forms text ts e = forms_ok (lines_of text ts) [] (lines_ok text ts e)
 pub starts_shown : (text : List ℕ) (ts : List Token) → tokens_of text ≡ Ok ts → Each (λ (v : Variable). GivenBytes v.given) (source_of (formed (lines_of text ts)).forms).vars
 starts_shown text ts e =
     let fs = (formed (lines_of text ts)).forms in
-    each_given (λ (v : Variable). GivenBytes v.given) (variable_of (types_of fs)) fs (each_weaker LineFormOk _ fs (given_ok (types_of fs)) (all_forms text ts e))
+    each_given (λ (v : Variable). GivenBytes v.given) (variable_of (types_of fs).structs) fs (each_weaker LineFormOk _ fs (given_ok (types_of fs).structs) (all_forms text ts e))
 
 -- and those that are operands
 pub args_shown : (text : List ℕ) (ts : List Token) → tokens_of text ≡ Ok ts → Each ArgBytes (all_args (program_of (source_of (formed (lines_of text ts)).forms)))

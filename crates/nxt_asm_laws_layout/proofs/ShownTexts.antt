@@ -6,14 +6,13 @@ use Rattle.nxt_model.specs.Nbc.Tokens.{Token, lines_of}
 use Rattle.nxt_model.specs.Nbc.Forms.{Formed, formed}
 use Rattle.nxt_model.specs.Nbc.NbcRules.{TextFault, start_fits, tells}
 use Rattle.nxt_model.specs.Nbc.Text.{Source, Variable, source_of}
+use Rattle.nxt_model.specs.Nbc.Types.{shape_in}
 use Rattle.nxt_model.specs.TextProgram.{Text, first_values, text_of}
 use Rattle.nxt_model.specs.declared.nbc.NbcProgram.{NbcProgram}
-use Rattle.nxt_nbc_lines.proofs.Laws.Ascending.{forms_ascend}
 use Rattle.nxt_nbc.specs.Checked.{IsParsed}
 use Rattle.nxt_asm_laws.proofs.Laws.Kept.{lines_kept}
 use Rattle.nxt_asm_laws.proofs.Laws.Lines.{each_formed}
-use Rattle.nxt_asm_laws.proofs.Laws.Source.{variables_hold}
-use Rattle.nxt_asm_laws.proofs.Laws.Starts.{Holds}
+use Rattle.nxt_asm_laws.proofs.Laws.Source.{VariableHolds, variables_hold}
 use Rattle.nxt_facts.proofs.Each.{Each, each_both}
 use Rattle.nxt_asm_laws_layout.proofs.Held.{AreHeld}
 use Rattle.nxt_asm_laws_layout.proofs.Laws.Parts.{IsVariable}
@@ -34,16 +33,16 @@ module _ (text : List ℕ) (p : NbcProgram) (parsed : IsParsed text p) where
   told : (f : TextFault) → tells fd f ≡ false
   told = nothing_told text ts parsed.accepted parsed.tokens.1
 
-  hold : Each (λ (v : Variable). Holds v.shape v.given) src.vars
-  hold = variables_hold fd.forms (lines_kept fd told) (forms_ascend text ts parsed.tokens.1) (each_formed (lines_of text ts) [])
+  hold : Each (VariableHolds src.types) src.vars
+  hold = variables_hold fd.forms (lines_kept fd told) (each_formed (lines_of text ts) [])
 
-  given : Each IsGiven src.vars
+  given : Each (IsGiven src.types) src.vars
   given =
-      each_both (λ (v : Variable). IsVariable v.shape × (start_fits v.shape v.given ≡ true))
-      (λ (v : Variable). Holds v.shape v.given × GivenBytes v.given) IsGiven
-      (λ v a b. let one : IsGiven v = record { range = a.1; holds = b.0; bytes = b.1 } in one) src.vars
+      each_both (λ (v : Variable). IsVariable (shape_in src.types v.type) × (start_fits (shape_in src.types v.type) v.given ≡ true))
+      (λ (v : Variable). VariableHolds src.types v × GivenBytes v.given) (IsGiven src.types)
+      (λ v a b. let one : IsGiven src.types v = record { range = a.1; holds = b.0; bytes = b.1 } in one) src.vars
       (declared_of text (text_of p) parsed)
-      (each_both (λ (v : Variable). Holds v.shape v.given) (λ (v : Variable). GivenBytes v.given) (λ (v : Variable). Holds v.shape v.given × GivenBytes v.given)
+      (each_both (VariableHolds src.types) (λ (v : Variable). GivenBytes v.given) (λ (v : Variable). VariableHolds src.types v × GivenBytes v.given)
       (λ v a b. (a, b)) src.vars hold (starts_shown text ts parsed.tokens.1))
 
   -- each value is one of its shape

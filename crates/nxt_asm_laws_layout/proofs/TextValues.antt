@@ -15,6 +15,7 @@ use Rattle.nxt_model.specs.Means.Text.{ended}
 use Rattle.nxt_model.specs.Nbc.Forms as forms
 use Rattle.nxt_model.specs.Nbc.Forms.{Given}
 use Rattle.nxt_model.specs.Nbc.NbcRules.{fit_elements, fits_shape, start_fits}
+use Rattle.nxt_model.specs.Nbc.Types.{Struct, shape_in}
 use Rattle.nxt_model.specs.Nbc.Text.{Source, Variable, program_of, program_var, start_of}
 use Rattle.nxt_model.specs.TextProgram as program
 use Rattle.nxt_model.specs.TextProgram.{Text, all_args, constant, constants, distinct, first_values, numbers_in, returns, shapes, starts_as, subroutines, text_shape, text_value, texts, texts_in}
@@ -158,23 +159,24 @@ texts_held [] h = refl
 texts_held (t ∷ ts) h = (text_held 1 t h.0, texts_held ts h.1)
 
 -- a variable's start is in range, and a text is of bytes
-pub record IsGiven (v : Variable) : Type 0 where
-  pub range : start_fits v.shape v.given ≡ true
-  pub holds : Holds v.shape v.given
+pub record IsGiven (types : List Struct) (v : Variable) : Type 0 where
+  pub range : start_fits (shape_in types v.type) v.given ≡ true
+  pub holds : Holds (shape_in types v.type) v.given
   pub bytes : GivenBytes v.given
 
-vars_held : (vs : List Variable) → Each IsGiven vs → AreHeld (members (map (λ (v : program.Variable). v.shape) (map program_var vs))) (map (λ (v : program.Variable). starts_as v.shape v.start) (map program_var vs))
-vars_held [] h = refl
-vars_held (v ∷ vs) h = (start_held v.shape v.given h.0.range h.0.holds h.0.bytes, vars_held vs h.1)
+vars_held : (types : List Struct) (vs : List Variable) → Each (IsGiven types) vs
+    → AreHeld (members (map (λ (v : program.Variable). v.shape) (map (program_var types) vs))) (map (λ (v : program.Variable). starts_as v.shape v.start) (map (program_var types) vs))
+vars_held types [] h = refl
+vars_held types (v ∷ vs) h = (start_held (shape_in types v.type) v.given h.0.range h.0.holds h.0.bytes, vars_held types vs h.1)
 
 -- the starting values of what a text declares
-pub source_held : (src : Source) → Each IsGiven src.vars → Each ArgBytes (all_args (program_of src)) → AreHeld (members (all_shapes (program_of src))) (all_values (program_of src) (first_values (program_of src)))
+pub source_held : (src : Source) → Each (IsGiven src.types) src.vars → Each ArgBytes (all_args (program_of src)) → AreHeld (members (all_shapes (program_of src))) (all_values (program_of src) (first_values (program_of src)))
 source_held src given small =
     let t : Text = program_of src in
     let numbers = map (λ z. Number Slong) (constants t) in
-    let declared = map (λ (v : program.Variable). v.shape) (map program_var src.vars) in
-    let first = map (λ (v : program.Variable). starts_as v.shape v.start) (map program_var src.vars) in
-    let vars = held_append declared (returns t) first (map zero_of (returns t)) (vars_held src.vars given) (zeros_held (returns t)) in
+    let declared = map (λ (v : program.Variable). v.shape) (map (program_var src.types) src.vars) in
+    let first = map (λ (v : program.Variable). starts_as v.shape v.start) (map (program_var src.types) src.vars) in
+    let vars = held_append declared (returns t) first (map zero_of (returns t)) (vars_held src.types src.vars given) (zeros_held (returns t)) in
     held_append (shapes t ++ numbers) (map (λ b. text_shape) (texts t)) (first_values t ++ map Num (constants t)) (map text_value (texts t))
     (held_append (shapes t) numbers (first_values t) (map Num (constants t)) vars (numbers_held (constants t) (constants_cut t)))
     (texts_held (texts t) (texts_small t small))

@@ -5,8 +5,7 @@ use Rattle.std.proofs.lemmas.List.Concat.{flat_map-append}
 use Rattle.nxt_types.specs.Shapes.{Shape, Void, Number, Array, Cluster, Mutex, members}
 use Rattle.nxt_types.specs.declared.kind.Kind.TheVariants.{Ubyte, Slong}
 use Rattle.nxt_model.specs.Values.{Value, Num, items, values, zero_of, zeros_of}
-use Rattle.nxt_model.specs.Nbc.Types.{arrays_of}
-use Rattle.nxt_model.specs.TextProgram.{Text, Variable, constants, declared, returns, starts_as, subroutines, text_of, text_shape, text_value, texts}
+use Rattle.nxt_model.specs.TextProgram.{arrays_of, Text, Variable, constants, declared, returns, starts_as, subroutines, text_of, text_shape, text_value, texts}
 use Rattle.nxt_model.specs.declared.nbc.NbcBlock.{NbcBlock}
 use Rattle.nxt_model.specs.declared.nbc.NbcProgram.{NbcProgram}
 use Rattle.nxt_model.specs.declared.nbc.NbcStruct.{NbcStruct}

@@ -5,8 +5,7 @@ use Rattle.std.proofs.lemmas.List.{drop_more, get_or_past, replicate_more}
 use Rattle.nxt_types.specs.Shapes.{Shape, Void, Cluster, Members, member, members, count}
 use Rattle.nxt_types.specs.declared.shape.TocEntry.{TocEntry}
 use Rattle.nxt_model.specs.Assembled.{entry, leaf_sizes, leaves_sizes}
-use Rattle.nxt_model.specs.Nbc.Types.{arrays_of}
-use Rattle.nxt_model.specs.TextProgram.{base_shape}
+use Rattle.nxt_model.specs.TextProgram.{arrays_of, base_shape}
 use Rattle.nxt_model.specs.declared.nbc.NbcBase.{NbcBase}
 use Rattle.nxt_model.specs.declared.nbc.NbcBase.TheVariants as bases
 use Rattle.nxt_model.specs.declared.nbc.NbcType.{NbcType}

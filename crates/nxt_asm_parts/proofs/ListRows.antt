@@ -10,9 +10,8 @@ use Rattle.nxt_types.specs.Shapes.{Shape, Void, Number, Array, cluster_of, leaf_
 use Rattle.nxt_types.specs.declared.kind.Kind.{Kind}
 use Rattle.nxt_types.specs.declared.kind.Kind.TheVariants.{Ubyte}
 use Rattle.nxt_model.specs.Means.Text.{ended}
-use Rattle.nxt_model.specs.Nbc.Types.{arrays_of}
 use Rattle.nxt_model.specs.Values.{Value, Num, byte_list, elements, list_of}
-use Rattle.nxt_model.specs.TextProgram.{base_shape, constants, shape_by, struct_shapes, text_of, text_shape, text_value, texts}
+use Rattle.nxt_model.specs.TextProgram.{arrays_of, base_shape, constants, shape_by, struct_shapes, text_of, text_shape, text_value, texts}
 use Rattle.nxt_model.specs.declared.nbc.NbcBase.{NbcBase}
 use Rattle.nxt_model.specs.declared.nbc.NbcBase.TheVariants as bases
 use Rattle.nxt_model.specs.declared.nbc.NbcBlock.{NbcBlock}

@@ -5,8 +5,7 @@ use Rattle.std.proofs.lemmas.List.Sums.{sum_by-cons}
 use Rattle.nxt_types.specs.Shapes.{Shape, Void, Mutex, cluster_of, members, shapes_of}
 use Rattle.nxt_types.specs.Names.{size, sizes}
 use Rattle.nxt_model.specs.Assembled.{entries_before}
-use Rattle.nxt_model.specs.Nbc.Types.{arrays_of}
-use Rattle.nxt_model.specs.TextProgram.{shape_by}
+use Rattle.nxt_model.specs.TextProgram.{arrays_of, shape_by}
 use Rattle.nxt_model.specs.declared.nbc.NbcStruct.{NbcStruct}
 use Rattle.nxt_model.specs.declared.nbc.NbcType.{NbcType}
 use Rattle.nxt_asm_parts.specs.Measures.{held}

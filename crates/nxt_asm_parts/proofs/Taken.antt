@@ -4,7 +4,7 @@ use Rattle.std.proofs.lemmas.List.Sums.{sum_by-append}
 use Rattle.nxt_types.specs.Shapes.{Shape, cluster_of, members}
 use Rattle.nxt_types.specs.Names.{size, sizes}
 use Rattle.nxt_model.specs.Assembled.{arrays_among, arrays_in, bytes_where, leaf_sizes, leaves_sizes}
-use Rattle.nxt_model.specs.Nbc.Types.{arrays_of}
+use Rattle.nxt_model.specs.TextProgram.{arrays_of}
 use Rattle.nxt_asm_parts.specs.Measures.{held, bytes_of_size, measure_of}
 use Rattle.nxt_asm_parts.specs.declared.measure.Measure.{Measure}
 

@@ -3,8 +3,7 @@
 ghost use Rattle.std.specs.Prelude.{◌≡◌, ℕ, ◌+◌, ◌^◌, ◌<◌, List, [], ◌∷◌, ◌++◌, map, length, take, nat_abs, IfOk};
 ghost use Rattle.nxt_types.specs.Shapes.{Shape, Number, Void, cluster_of, leaf_bytes};
 ghost use Rattle.nxt_model.specs.Assembled.{entries_before};
-ghost use Rattle.nxt_model.specs.Nbc.Types.{arrays_of};
-ghost use Rattle.nxt_model.specs.TextProgram.{base_shape, shape_by, struct_shape, struct_shapes};
+ghost use Rattle.nxt_model.specs.TextProgram.{arrays_of, base_shape, shape_by, struct_shape, struct_shapes};
 ghost use Rattle.nxt_asm_parts.specs.Elements.{large_in};
 ghost use Rattle.nxt_asm_parts.specs.Measures.{held, measure_of};
 ghost use Rattle.nxt_asm_parts.specs.MeasuresSeen.{AreMeasured, IsStep, shapes_seen, struct_measure};

@@ -1,13 +1,12 @@
 -- The lines in front of the statements of a generated text: their marks, words and forms, and what they declare.
 use Rattle.std.specs.Prelude.{ℕ, false, List, [], ◌∷◌, codes, Some}
-use Rattle.nxt_types.specs.Shapes.{Number}
-use Rattle.nxt_types.specs.declared.kind.Kind.TheVariants.{Ulong}
+use Rattle.nxt_types.specs.declared.kind.Kind.TheVariants.{Ubyte, Ulong}
+use Rattle.nxt_model.specs.declared.nbc.NbcBase.TheVariants as bases
 use Rattle.nxt_model.specs.Nbc.Tokens.{Line, Name, Quoted, Sign, Word}
 use Rattle.nxt_model.specs.Nbc.Forms.{Form, Include, OpenData, CloseData, OpenThread, Declare, Nothing, type_name}
-use Rattle.nxt_model.specs.Nbc.Header.{header_types}
-use Rattle.nxt_model.specs.Nbc.Text.{Block, Source, Variable}
+use Rattle.nxt_model.specs.Nbc.Header.{header_at, typed}
+use Rattle.nxt_model.specs.Nbc.Text.{Block, NameSort, OfVariable, OfBlock, Source, Variable}
 use Rattle.nxt_gen_laws.specs.Marks.{Mark, Written, Blank, NextLine}
-use Rattle.nxt_gen_laws.specs.Rows.{byte_list}
 
 -- ---- marks
 
@@ -75,10 +74,10 @@ head_forms fs =
 -- ---- what is declared
 
 abbrev pub list_variable : ℕ → List ℕ → Variable
-list_variable line name = record { name = name; type = type_name (codes "byte") 1; shape = byte_list; given = Nothing; line = line }
+list_variable line name = record { name = name; type = typed (bases.Number Ubyte) 1; given = Nothing; line = line }
 
 abbrev pub size_variable : Variable
-size_variable = record { name = codes "n"; type = type_name (codes "long") 0; shape = Number Ulong; given = Nothing; line = 11 }
+size_variable = record { name = codes "n"; type = typed (bases.Number Ulong) 0; given = Nothing; line = 11 }
 
 abbrev pub head_variables : List Variable
 head_variables =
@@ -96,5 +95,12 @@ head_variables =
 abbrev pub main_block : List (ℕ × Form) → Block
 main_block items = record { name = codes "main"; subroutine = false; line = 13; items = items }
 
+-- in front of other names
+abbrev pub head_names : List (List ℕ × NameSort) → List (List ℕ × NameSort)
+head_names ns =
+    (codes "a0", OfVariable) ∷ (codes "a1", OfVariable) ∷ (codes "a2", OfVariable) ∷ (codes "a3", OfVariable) ∷ (codes "a4", OfVariable)
+    ∷ (codes "a5", OfVariable) ∷ (codes "a6", OfVariable) ∷ (codes "a7", OfVariable) ∷ (codes "n", OfVariable) ∷ (codes "main", OfBlock) ∷ ns
+
 abbrev pub source_with : List (ℕ × Form) → Source
-source_with items = record { included = Some 1; types = header_types 1; vars = head_variables; blocks = main_block items ∷ [] }
+source_with items =
+    record { included = Some 1; types = header_at 0 1; vars = head_variables; blocks = main_block items ∷ []; names = head_names [] }

@@ -3,6 +3,7 @@ use Rattle.std.specs.Prelude.{ℕ, suc, false, List, [], ◌∷◌, map, pos}
 use Rattle.nxt_types.specs.Arithmetic.{cut}
 use Rattle.nxt_types.specs.declared.kind.Cmp.TheVariants.{Lt}
 use Rattle.nxt_types.specs.declared.kind.Kind.TheVariants.{Slong}
+use Rattle.nxt_model.specs.Nbc.Header.{header_at}
 use Rattle.nxt_model.specs.Nbc.Text.{ending, program_var, statement}
 use Rattle.nxt_model.specs.TextProgram as program
 use Rattle.nxt_model.specs.declared.nbc.NbcArg.{NbcArg}
@@ -34,4 +35,4 @@ abbrev pub rows_block : List Row → NbcBlock
 rows_block rs = record { subroutine = false; fire = 0; dependents = []; body = row_statements 14 rs }
 
 abbrev pub spelled : List Row → program.Text
-spelled rs = record { vars = map program_var head_variables; blocks = rows_block rs ∷ [] }
+spelled rs = record { vars = map (program_var (header_at 0 1)) head_variables; blocks = rows_block rs ∷ [] }

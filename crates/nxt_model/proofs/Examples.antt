@@ -12,5 +12,7 @@ pub mod Dumps
 pub mod NbcTokens
 -- Worked texts: the first broken rule, and a program.
 pub mod NbcTexts
+-- Worked texts: which declaration of a name counts.
+pub mod NbcNames
 -- Worked texts: what they mean, and the images that they are assembled to.
 pub mod TextPrograms

@@ -18,3 +18,5 @@ pub mod Values
 pub mod Flat
 -- Numbers that are read from bytes are of their kind.
 pub mod Numbers
+-- The shapes of structs, with one struct more.
+pub mod StructShapes

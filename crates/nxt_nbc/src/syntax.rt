@@ -3,13 +3,12 @@
 ghost use Rattle.std.specs.Prelude.{◌≡◌, ◌&&◌, map, not};
 ghost use Rattle.nxt_model.specs.Nbc.Forms.{is_byte_name};
 ghost use Rattle.nxt_model.specs.Nbc.Text.{source_of};
-ghost use Rattle.nxt_model.specs.Nbc.Types.{is_type, shape_of, types_at};
+ghost use Rattle.nxt_model.specs.Nbc.Types.{is_type_at, shape_at};
 ghost use Rattle.nxt_model.specs.Nbc.NbcRules.{Syntax, is_too_large, tells};
 ghost use Rattle.nxt_nbc_lines.specs.Firsts.{IsLeast, first_line};
 ghost use Rattle.nxt_nbc_lines.specs.Seen.{form_seen, formed_seen, line_form_seen, type_seen};
 ghost use Rattle.nxt_nbc_lines.specs.Whole.{AreLines};
 ghost use Rattle.nxt_nbc_names.specs.SourceSeen.{source_seen};
-ghost use Rattle.nxt_nbc_names.specs.Structs.{structs_in};
 ghost use Rattle.nxt_nbc.specs.Syntax.{is_bad_form};
 
 use crate::lines::lesser;
@@ -30,7 +29,7 @@ pub fn bad_line<'a>(formed: &Formed<'a>, source: &Source<'_, 'a>) -> Option<u32>
 }
 
 fn first_bad_form<'a>(lines: &[LineForm<'a>], structs: &StructTable<'a>) -> Option<u32>
-    ensures { result ≡ first_line (is_bad_form (structs_in structs.now)) (map line_form_seen lines.now) }
+    ensures { result ≡ first_line (is_bad_form structs.now.structs) (map line_form_seen lines.now) }
 {
     for line in lines {
         if is_bad_form(line, structs) {
@@ -41,7 +40,7 @@ fn first_bad_form<'a>(lines: &[LineForm<'a>], structs: &StructTable<'a>) -> Opti
 }
 
 fn is_bad_form<'a>(line: &LineForm<'a>, structs: &StructTable<'a>) -> bool
-    ensures { result ≡ is_bad_form (structs_in structs.now) line.now.line (form_seen line.now.form) }
+    ensures { result ≡ is_bad_form structs.now.structs line.now.line (form_seen line.now.form) }
 {
     match &line.form {
         Form::Declare(_, of, Given::Bytes(_)) => {
@@ -53,14 +52,14 @@ fn is_bad_form<'a>(line: &LineForm<'a>, structs: &StructTable<'a>) -> bool
 }
 
 fn has_large_type<'a>(of: TypeName<'a>, line: u32, structs: &StructTable<'a>) -> bool
-    ensures { result ≡ is_too_large (shape_of (types_at (structs_in structs.now) line) (type_seen of.entry)) }
+    ensures { result ≡ is_too_large (shape_at structs.now.structs line (type_seen of.entry)) }
 {
     structs.extent(structs.shape(of, line)).is_too_large()
 }
 
 // Whether a type's name is one that no text is given to.
 fn is_no_text<'a>(of: TypeName<'a>, line: u32, structs: &StructTable<'a>) -> bool
-    ensures { result ≡ (is_type (types_at (structs_in structs.now) line) of.entry.name.now && not (is_byte_name of.entry.name.now)) }
+    ensures { result ≡ (is_type_at structs.now.structs line of.entry.name.now && not (is_byte_name of.entry.name.now)) }
 {
     structs.is_type(of.name, line) && !is_byte_name(of.name)
 }

@@ -7,7 +7,7 @@ use Rattle.nxt_types.specs.declared.instr.Op.{Op}
 use Rattle.nxt_types.specs.declared.opcodes.Class.{Class}
 use Rattle.nxt_types.specs.declared.opcodes.Class.TheVariants.{Immediate}
 use Rattle.nxt_nbc_lines.proofs.Laws.Classes.{class_there}
-use Rattle.nxt_nbc_names.specs.Structs.{Types}
+use Rattle.nxt_model.specs.Nbc.Structs.{Types}
 use Rattle.nxt_nbc_kinds.specs.OperandsSeen.{operand_seen, operands_seen}
 use Rattle.nxt_nbc_kinds.specs.declared.operand.Operand.{Operand}
 

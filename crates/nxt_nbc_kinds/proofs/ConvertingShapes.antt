@@ -4,7 +4,7 @@ use Rattle.std.proofs.lemmas.Bool.{and_parts, and_from}
 use Rattle.std.proofs.lemmas.Bool.Decides.{nat_tests}
 use Rattle.nxt_types.specs.OperandRules.{is_list}
 use Rattle.nxt_types.specs.Shapes.{Shape, Void, Number, Array, Cluster, Mutex, Members, no_members, member, convertible, convertible_members}
-use Rattle.nxt_model.specs.Nbc.Types.{arrays_of}
+use Rattle.nxt_model.specs.TextProgram.{arrays_of}
 
 pub void_never : (x : Shape) → convertible Void x ≡ false
 void_never Void = refl

@@ -6,8 +6,7 @@ use Rattle.std.proofs.lemmas.List.{get_or_append_left}
 use Rattle.nxt_types.specs.OperandRules.{is_list}
 use Rattle.nxt_types.specs.Shapes.{Shape, Void, Number, Cluster, Members, no_members, member, cluster_of, members as members_of, convertible, convertible_members}
 use Rattle.nxt_types.specs.declared.kind.Kind.TheVariants.{Ubyte}
-use Rattle.nxt_model.specs.Nbc.Types.{arrays_of}
-use Rattle.nxt_model.specs.TextProgram.{base_shape, shape_by}
+use Rattle.nxt_model.specs.TextProgram.{arrays_of, base_shape, shape_by}
 use Rattle.nxt_model.specs.declared.nbc.NbcBase.{NbcBase}
 use Rattle.nxt_model.specs.declared.nbc.NbcBase.TheVariants as bases
 use Rattle.nxt_model.specs.declared.nbc.NbcType.{NbcType}

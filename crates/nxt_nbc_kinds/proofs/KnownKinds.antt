@@ -8,7 +8,9 @@ use Rattle.std.proofs.lemmas.List.Sums.{passes_at_first, position_or_len_is}
 use Rattle.std.proofs.lemmas.Simd.{map-map}
 use Rattle.nxt_types.specs.Shapes.{Shape, Void, Cluster, Members, cluster_of, members as members_of, convertible, convertible_members}
 use Rattle.nxt_model.specs.TextProgram.{shape_by}
-use Rattle.nxt_nbc_names.specs.Structs.{DeclaredMember, DeclaredStruct, Types, declared, shapes_of}
+use Rattle.nxt_model.proofs.Laws.StructShapes.{type_shapes_push}
+use Rattle.nxt_model.specs.Nbc.Types.{StructMember, Struct, type_shapes}
+use Rattle.nxt_model.specs.Nbc.Structs.{Types}
 use Rattle.nxt_nbc_names.specs.MembersSeen.{member_seen}
 use Rattle.nxt_nbc_names.specs.StructsSeen.{struct_seen, structs_seen}
 use Rattle.nxt_nbc_names.specs.declared.members.Member.{Member as ProgramMember}
@@ -18,7 +20,6 @@ use Rattle.nxt_nbc_kinds.specs.Kinds.{kinds_of, known_with, number_of, same_memb
 use Rattle.nxt_nbc_kinds.specs.declared.conversions.TypeKind.{TypeKind}
 use Rattle.nxt_nbc_kinds.proofs.ConvertingShapes.{alike, both_ways, through, void_never}
 use Rattle.nxt_nbc_kinds.proofs.KindShapes.{AreApart, AreOfTypes, AreWithin, IsOfStruct, members_apart, struct_like, struct_like_more, type_like, types_of_kinds, within_more}
-use Rattle.nxt_nbc_kinds.proofs.StructsBehind.{shapes_push}
 
 -- each struct is of the kind that it is held with, and each kind has a shape of its own, by those before it
 pub record AreKnown (ss : List Shape) (ks : List (Option ℕ)) (known : List (List TypeKind)) : Type 0 where
@@ -208,42 +209,42 @@ cluster_never : (ss : List Shape) → ((x : Members) → convertible_members (me
 cluster_never ss never (Cluster xs) = never xs
 cluster_never ss never x = refl
 
-pub struct_known : (ds : List DeclaredStruct) (d : DeclaredStruct) (ks : List (Option ℕ)) (known : List (List TypeKind)) (o : Option (List TypeKind))
-    → o ≡ kinds_of ks (map (λ m. m.shape) d.members) → AreKnown (shapes_of ds) ks known
-    → AreKnown (shapes_of (ds ++ d ∷ [])) (ks ++ number_of known o ∷ []) (known_with known o)
+pub struct_known : (ds : List Struct) (d : Struct) (ks : List (Option ℕ)) (known : List (List TypeKind)) (o : Option (List TypeKind))
+    → o ≡ kinds_of ks (map (λ m. m.type) d.members) → AreKnown (type_shapes ds) ks known
+    → AreKnown (type_shapes (ds ++ d ∷ [])) (ks ++ number_of known o ∷ []) (known_with known o)
 struct_known ds d ks known o e all =
-    subst (λ ss. AreKnown ss (ks ++ number_of known o ∷ []) (known_with known o)) (sym (shapes_push ds d))
-    (by o (subst (AreOfTypes all.like shapes) (sym e) (types_of_kinds all.like (shapes_of ds) ks all.kinds (map (λ (m : DeclaredMember). m.shape) d.members))))
+    subst (λ ss. AreKnown ss (ks ++ number_of known o ∷ []) (known_with known o)) (sym (type_shapes_push ds d))
+    (by o (subst (AreOfTypes all.like shapes) (sym e) (types_of_kinds all.like (type_shapes ds) ks all.kinds (map (λ (m : StructMember). m.type) d.members))))
   where
     shapes : List Shape
-    shapes = map (shape_by (shapes_of ds)) (map (λ (m : DeclaredMember). m.shape) d.members)
+    shapes = map (shape_by (type_shapes ds)) (map (λ (m : StructMember). m.type) d.members)
 
-    by : (p : Option (List TypeKind)) → AreOfTypes all.like shapes p → AreKnown (shapes_of ds ++ cluster_of shapes ∷ []) (ks ++ number_of known p ∷ []) (known_with known p)
-    by None never = known_again (shapes_of ds) ks known all (cluster_of shapes) None (cluster_never shapes never)
+    by : (p : Option (List TypeKind)) → AreOfTypes all.like shapes p → AreKnown (type_shapes ds ++ cluster_of shapes ∷ []) (ks ++ number_of known p ∷ []) (known_with known p)
+    by None never = known_again (type_shapes ds) ks known all (cluster_of shapes) None (cluster_never shapes never)
     by (Some ms) is = either (list_any (same_members ms) known) refl
       where
         n : ℕ
         n = position_or_len (same_members ms) known
 
-        either : (b : Bool) → list_any (same_members ms) known ≡ b → AreKnown (shapes_of ds ++ cluster_of shapes ∷ []) (ks ++ Some n ∷ []) (if b then known else known ++ ms ∷ [])
+        either : (b : Bool) → list_any (same_members ms) known ≡ b → AreKnown (type_shapes ds ++ cluster_of shapes ∷ []) (ks ++ Some n ∷ []) (if b then known else known ++ ms ∷ [])
         either true some =
             let under = found (same_members ms) known some in
-            let same = apart_from (shapes_of ds) ks known all ms is.0 n under ∙ passes_at_first (same_members ms) known [] under in
-            known_again (shapes_of ds) ks known all (cluster_of shapes) (Some n)
+            let same = apart_from (type_shapes ds) ks known all ms is.0 n under ∙ passes_at_first (same_members ms) known [] under in
+            known_again (type_shapes ds) ks known all (cluster_of shapes) (Some n)
             (omega (arith, all.counted, under), through (cluster_of shapes) (struct_like all.like ms) (slice_index_or all.like n Void) is.1 same)
         either false none =
             let new = missing (same_members ms) known [] none in
             let next : n ≡ length known = position_or_len_is (same_members ms) known (length known) [] (le_refl _) new (λ h. absurd (omega arith)) in
-            subst (λ k. AreKnown (shapes_of ds ++ cluster_of shapes ∷ []) (ks ++ Some k ∷ []) (known ++ ms ∷ [])) (sym next)
-            (known_first (shapes_of ds) ks known all (cluster_of shapes) ms is.0 is.1 new)
+            subst (λ k. AreKnown (type_shapes ds ++ cluster_of shapes ∷ []) (ks ++ Some k ∷ []) (known ++ ms ∷ [])) (sym next)
+            (known_first (type_shapes ds) ks known all (cluster_of shapes) ms is.0 is.1 new)
 
 -- ---- which structs convert
 
-pub are_kinship : (t : Types) (ks : List (Option ℕ)) (known : List (List TypeKind)) → AreKnown (shapes_of (declared t)) ks known → AreConversions t ks
+pub are_kinship : (t : Types) (ks : List (Option ℕ)) (known : List (List TypeKind)) → AreKnown (type_shapes t.structs) ks known → AreConversions t ks
 are_kinship t ks known all i j = by (slice_index_or ks i None) (slice_index_or ks j None) (all.kinds i) (all.kinds j)
   where
     ss : List Shape
-    ss = shapes_of (declared t)
+    ss = type_shapes t.structs
 
     by : (a b : Option ℕ) → IsOfStruct all.like (slice_index_or ss i Void) a → IsOfStruct all.like (slice_index_or ss j Void) b
         → convertible (slice_index_or ss i Void) (slice_index_or ss j Void) ≡ are_of_a_kind a b
@@ -256,22 +257,22 @@ are_kinship t ks known all i j = by (slice_index_or ks i None) (slice_index_or k
 -- ---- in a loop over the structs
 
 module _ (xs : List ProgramStruct) (i : ℕ) (d : ProgramStruct) (items : List ProgramMember) (ks : List (Option ℕ)) (known : List (List TypeKind))
-    (under : i < length xs) (members : map member_seen items ≡ (get_or xs i d).members) (all : AreKnown (shapes_of (structs_seen (take i xs))) ks known) where
+    (under : i < length xs) (members : map member_seen items ≡ (get_or xs i d).members) (all : AreKnown (type_shapes (structs_seen (take i xs))) ks known) where
   abbrev kind : List (Option ℕ) → Option (List TypeKind)
   kind structs = kinds_of structs (map (λ (m : ProgramMember). m.shape) items)
 
-  more_known : AreKnown (shapes_of (structs_seen (take (i + 1) xs))) (ks ++ number_of known (kind ks) ∷ []) (known_with known (kind ks))
+  more_known : AreKnown (type_shapes (structs_seen (take (i + 1) xs))) (ks ++ number_of known (kind ks) ∷ []) (known_with known (kind ks))
   more_known =
-      let shape = λ (m : DeclaredMember). m.shape in
-      subst (λ ds. AreKnown (shapes_of ds) (ks ++ number_of known (kind ks) ∷ []) (known_with known (kind ks))) (sym (map_more struct_seen xs i d under))
+      let shape = λ (m : StructMember). m.type in
+      subst (λ ds. AreKnown (type_shapes ds) (ks ++ number_of known (kind ks) ∷ []) (known_with known (kind ks))) (sym (map_more struct_seen xs i d under))
       (struct_known (structs_seen (take i xs)) (struct_seen (get_or xs i d)) ks known (kind ks)
       (ap (kinds_of ks) (sym (map-map shape member_seen items) ∙ ap (map shape) members)) all)
 
   pub known_more : (structs : List (Option ℕ)) (k : Option ℕ) (now : List (Option ℕ)) (known_now : List (List TypeKind)) → structs ≡ ks
       → k ≡ number_of known (kinds_of structs (map (λ m. m.shape) items)) → known_now ≡ known_with known (kinds_of structs (map (λ m. m.shape) items)) → now ≡ ks ++ k ∷ []
-      → AreKnown (shapes_of (structs_seen (take (i + 1) xs))) now known_now
+      → AreKnown (type_shapes (structs_seen (take (i + 1) xs))) now known_now
   known_more structs k now known_now same number grown pushed =
-      let keep = λ (o : Option (List TypeKind)). AreKnown (shapes_of (structs_seen (take (i + 1) xs))) (ks ++ number_of known o ∷ []) (known_with known o) in
-      let these : AreKnown (shapes_of (structs_seen (take (i + 1) xs))) (ks ++ number_of known (kind structs) ∷ []) (known_with known (kind structs)) =
+      let keep = λ (o : Option (List TypeKind)). AreKnown (type_shapes (structs_seen (take (i + 1) xs))) (ks ++ number_of known o ∷ []) (known_with known o) in
+      let these : AreKnown (type_shapes (structs_seen (take (i + 1) xs))) (ks ++ number_of known (kind structs) ∷ []) (known_with known (kind structs)) =
       subst keep (sym (ap kind same)) more_known in
-      subst₂ (AreKnown (shapes_of (structs_seen (take (i + 1) xs)))) (sym (pushed ∙ ap (λ n. ks ++ n ∷ []) number)) (sym grown) these
+      subst₂ (AreKnown (type_shapes (structs_seen (take (i + 1) xs)))) (sym (pushed ∙ ap (λ n. ks ++ n ∷ []) number)) (sym grown) these

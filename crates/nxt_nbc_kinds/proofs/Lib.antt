@@ -6,8 +6,6 @@ mod ConvertingShapes
 mod KindShapes
 -- Which kinds of structs are known.
 mod KnownKinds
--- The shapes of structs behind one another.
-mod StructsBehind
 -- The kinds of types, one after another.
 mod KindsInTurn
 -- The derived tests of kinds are those of the definitions.

@@ -13,7 +13,7 @@ use Rattle.nxt_model.specs.Nbc.NbcRules.{sort_of_term, sorts_from, sorts_of}
 use Rattle.nxt_nbc_lines.specs.Seen.{term_seen, terms_seen}
 use Rattle.nxt_nbc_lines.specs.declared.terms.Term.{Term as ProgramTerm}
 use Rattle.nxt_nbc_lines.proofs.Laws.Classes.{class_there, count_classes}
-use Rattle.nxt_nbc_names.specs.Structs.{Types}
+use Rattle.nxt_model.specs.Nbc.Structs.{Types}
 use Rattle.nxt_nbc_kinds.specs.OperandsSeen.{operand_seen, operands_seen}
 use Rattle.nxt_nbc_kinds.specs.declared.operand.Operand.{Operand}
 

@@ -1,14 +1,15 @@
 -- Types convert to one another where they are of one kind.
-use Rattle.std.proofs.Common.{◌≡◌, ℕ, zero, suc, Bool, false, ◌&&◌, ◌==◌, List, [], ◌∷◌, map, slice_index_or, Option, Some, None, option_map, refl, sym, ap, ◌∙◌}
+use Rattle.std.proofs.Common.{◌≡◌, ℕ, Bool, false, ◌&&◌, ◌==◌, List, slice_index_or, Option, Some, None, option_map, refl, sym, ap, ◌∙◌}
 use Rattle.nxt_types.specs.OperandRules.{is_list}
 use Rattle.nxt_types.specs.Shapes.{Shape, Void, Number, Mutex, convertible}
 use Rattle.nxt_types.specs.declared.kind.Kind.{Kind}
-use Rattle.nxt_model.specs.Nbc.Types.{Struct, shape_of_struct}
+use Rattle.nxt_model.specs.Nbc.Types.{Struct, shape_in, type_shapes}
 use Rattle.nxt_model.specs.TextProgram.{base_shape}
+use Rattle.nxt_model.proofs.Laws.StructShapes.{at_struct}
 use Rattle.nxt_model.specs.declared.nbc.NbcBase.{NbcBase}
 use Rattle.nxt_model.specs.declared.nbc.NbcBase.TheVariants as bases
 use Rattle.nxt_model.specs.declared.nbc.NbcType.{NbcType}
-use Rattle.nxt_nbc_names.specs.Structs.{Types, declared, shape_in, shapes_of, structs_in}
+use Rattle.nxt_model.specs.Nbc.Structs.{Types}
 use Rattle.nxt_nbc_kinds.specs.ConvertingStructs.{AreConversions, are_of_a_kind}
 use Rattle.nxt_nbc_kinds.specs.Kinds.{are_of_one_kind, base_kind, same_base, type_kind}
 use Rattle.nxt_nbc_kinds.specs.declared.conversions.BaseKind.{BaseKind}
@@ -17,15 +18,11 @@ use Rattle.nxt_nbc_kinds.proofs.ConvertingShapes.{as_many_arrays, both_ways, mut
 
 -- ---- structs are clusters
 
-no_list : (ss : List Struct) (i : ℕ) → is_list (slice_index_or (map shape_of_struct ss) i Void) ≡ false
-no_list [] i = refl
-no_list (s ∷ ss) zero = refl
-no_list (s ∷ ss) (suc i) = no_list ss i
+no_list : (types : List Struct) (i : ℕ) → is_list (slice_index_or (type_shapes types) i Void) ≡ false
+no_list types i = at_struct (λ s. is_list s ≡ false) refl (λ ms. refl) types i
 
-no_number : (k : Kind) (ss : List Struct) (i : ℕ) → convertible (Number k) (slice_index_or (map shape_of_struct ss) i Void) ≡ false
-no_number k [] i = refl
-no_number k (s ∷ ss) zero = refl
-no_number k (s ∷ ss) (suc i) = no_number k ss i
+no_number : (k : Kind) (types : List Struct) (i : ℕ) → convertible (Number k) (slice_index_or (type_shapes types) i Void) ≡ false
+no_number k types i = at_struct (λ s. convertible (Number k) s ≡ false) refl (λ ms. refl) types i
 
 -- ---- bases
 
@@ -59,23 +56,23 @@ types_by_base (Some a) (Some b) n m = refl
 
 module _ (t : Types) (ks : List (Option ℕ)) (all : AreConversions t ks) where
   abbrev ss : List Shape
-  ss = shapes_of (declared t)
+  ss = type_shapes t.structs
 
   no_list_base : (b : NbcBase) → is_list (base_shape ss b) ≡ false
   no_list_base (bases.Number k) = refl
   no_list_base bases.Mutex = refl
-  no_list_base (bases.Struct i) = no_list (structs_in t) i
+  no_list_base (bases.Struct i) = no_list t.structs i
 
   bases_convert : (a b : NbcBase) → convertible (base_shape ss a) (base_shape ss b) ≡ are_of_one_base (base_kind ks a) (base_kind ks b)
   bases_convert bases.Mutex b = mutex_never (base_shape ss b)
   bases_convert a bases.Mutex = both_ways (base_shape ss a) Mutex ∙ mutex_never (base_shape ss a) ∙ none_of (base_kind ks a)
   bases_convert (bases.Number k) (bases.Number l) = refl
-  bases_convert (bases.Number k) (bases.Struct j) = no_number k (structs_in t) j ∙ number_apart (slice_index_or ks j None)
+  bases_convert (bases.Number k) (bases.Struct j) = no_number k t.structs j ∙ number_apart (slice_index_or ks j None)
   bases_convert (bases.Struct i) (bases.Number l) =
-      both_ways (slice_index_or ss i Void) (Number l) ∙ no_number l (structs_in t) i ∙ struct_apart (slice_index_or ks i None)
+      both_ways (slice_index_or ss i Void) (Number l) ∙ no_number l t.structs i ∙ struct_apart (slice_index_or ks i None)
   bases_convert (bases.Struct i) (bases.Struct j) = all i j ∙ kind_by_base (slice_index_or ks i None) (slice_index_or ks j None)
 
-  pub types_convert : (to from : NbcType) → are_of_one_kind (type_kind ks to) (type_kind ks from) ≡ convertible (shape_in t to) (shape_in t from)
+  pub types_convert : (to from : NbcType) → are_of_one_kind (type_kind ks to) (type_kind ks from) ≡ convertible (shape_in t.structs to) (shape_in t.structs from)
   types_convert to from =
       sym
       (as_many_arrays to.arrays from.arrays (base_shape ss to.base) (base_shape ss from.base) (no_list_base to.base) (no_list_base from.base)

@@ -4,7 +4,7 @@ ghost use Rattle.std.specs.Prelude.{◌≡◌, ◌<◌, length, slice_index_or, 
 ghost use Rattle.nxt_types.specs.Opcodes.{arity, takes};
 ghost use Rattle.nxt_types.specs.OperandRules.{asked as asked_of, has_kind as has_kind_of, is_allowed as is_allowed_in, is_of_class as is_of_class_of, shape_of, sort_at, word_of};
 ghost use Rattle.nxt_operand_rules.specs.Questions.{answer as answer_of};
-ghost use Rattle.nxt_nbc_names.specs.Structs.{Types};
+ghost use Rattle.nxt_model.specs.Nbc.Structs.{Types};
 ghost use Rattle.nxt_nbc_kinds.specs.ConvertingStructs.{AreConversions};
 ghost use Rattle.nxt_nbc_kinds.specs.OperandsSeen.{operand_seen, operands_seen};
 

@@ -1,7 +1,8 @@
 // Which types of a text convert to one another.
 
 ghost use Rattle.std.specs.Prelude.{◌≡◌, [], IfOk, OnOk, Some, map, option_map};
-ghost use Rattle.nxt_nbc_names.specs.Structs.{Types, shape_in};
+ghost use Rattle.nxt_model.specs.Nbc.Types.{shape_in};
+ghost use Rattle.nxt_model.specs.Nbc.Structs.{Types};
 ghost use Rattle.nxt_types.specs.Shapes.{convertible};
 ghost use Rattle.nxt_nbc_kinds.specs.ConvertingStructs.{AreConversions};
 ghost use Rattle.nxt_nbc_kinds.specs.Kinds.{are_of_one_kind, base_kind, kinds_of, known_with, number_of, type_kind};
@@ -162,7 +163,7 @@ impl Conversions {
 
     /// Whether a value of the one type can be stored in the other.
     pub fn converts(&self, to: NbcType, from: NbcType) -> bool
-        ensures { (t : Types) → AreConversions t self.now → result ≡ convertible (shape_in t to) (shape_in t from) }
+        ensures { (t : Types) → AreConversions t self.now → result ≡ convertible (shape_in t.structs to) (shape_in t.structs from) }
     {
         let kinds = self.kinds.as_slice();
         are_of_one_kind(type_kind(kinds, to), type_kind(kinds, from))

@@ -11,7 +11,7 @@ ghost use Rattle.nxt_nbc_lines.specs.Seen.{form_seen, formed_seen, term_seen, te
 ghost use Rattle.nxt_nbc_lines.specs.Whole.{AreLines, IsWhole, most_in_text};
 ghost use Rattle.nxt_nbc_names.specs.DenotedSeen.{denoted_seen};
 ghost use Rattle.nxt_nbc_names.specs.SourceSeen.{source_seen};
-ghost use Rattle.nxt_nbc_names.specs.Structs.{Types};
+ghost use Rattle.nxt_model.specs.Nbc.Structs.{Types};
 ghost use Rattle.nxt_nbc_kinds.specs.ConvertingStructs.{AreConversions};
 
 use crate::between::has_kind;

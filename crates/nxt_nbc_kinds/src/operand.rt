@@ -3,7 +3,7 @@
 ghost use Rattle.std.specs.Prelude.{◌≡◌};
 ghost use Rattle.nxt_types.specs.OperandRules.{shape_of, sort_at, word_of};
 ghost use Rattle.nxt_operand_rules.specs.SeenOf.{seen as seen_of};
-ghost use Rattle.nxt_nbc_names.specs.Structs.{Types};
+ghost use Rattle.nxt_model.specs.Nbc.Structs.{Types};
 ghost use Rattle.nxt_nbc_kinds.specs.OperandsSeen.{operand_seen, operands_seen, shape_seen};
 
 use crate::types::seen;

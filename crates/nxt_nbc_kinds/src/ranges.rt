@@ -13,7 +13,8 @@ ghost use Rattle.nxt_nbc_lines.specs.Seen.{form_seen, formed_seen, given_seen, l
 ghost use Rattle.nxt_nbc_lines.specs.Whole.{AreLines, AreWhole, IsWhole};
 ghost use Rattle.nxt_nbc_names.specs.DenotedSeen.{denoted_seen};
 ghost use Rattle.nxt_nbc_names.specs.SourceSeen.{source_seen};
-ghost use Rattle.nxt_nbc_names.specs.Structs.{Types, shape_in};
+ghost use Rattle.nxt_model.specs.Nbc.Types.{shape_in};
+ghost use Rattle.nxt_model.specs.Nbc.Structs.{Types};
 ghost use Rattle.nxt_nbc_kinds.specs.OperandsSeen.{operands_seen, shape_seen};
 
 use crate::between::is_allowed;
@@ -86,7 +87,7 @@ fn is_out_of_range<'a>(
 
 // Whether a variable of a type holds its start.
 fn start_fits(shape: NbcType, given: &Given<'_>) -> bool
-    ensures { (t : Types) → result ≡ start_fits_shape (shape_in t shape) (given_seen given.now) }
+    ensures { (t : Types) → result ≡ start_fits_shape (shape_in t.structs shape) (given_seen given.now) }
 {
     match given {
         Given::Nothing | Given::Bytes(_) => true,

@@ -8,7 +8,7 @@ ghost use Rattle.nxt_model.specs.declared.nbc.NbcBase.TheVariants.{Number};
 ghost use Rattle.nxt_nbc_lines.specs.Seen.{term_seen, terms_seen};
 ghost use Rattle.nxt_nbc_names.specs.DenotedSeen.{denoted_seen};
 ghost use Rattle.nxt_nbc_names.specs.SourceSeen.{source_seen};
-ghost use Rattle.nxt_nbc_names.specs.Structs.{Types};
+ghost use Rattle.nxt_model.specs.Nbc.Structs.{Types};
 ghost use Rattle.nxt_nbc_kinds.specs.OperandsSeen.{operand_seen, operands_seen};
 ghost use Rattle.nxt_nbc_kinds.specs.declared.operand.Operand.TheVariants.{Part, Unknown};
 

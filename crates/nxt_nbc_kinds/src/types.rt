@@ -6,7 +6,8 @@ ghost use Rattle.nxt_types.specs.Calls.{are_fields as are_fields_of, is_cluster_
 ghost use Rattle.nxt_types.specs.OperandRules.{element_of, goes_into as goes_into_list, is_group, is_list as is_list_shape};
 ghost use Rattle.nxt_operand_rules.specs.SeenOf.{seen_by, seen_by_element};
 ghost use Rattle.nxt_model.specs.TextProgram.{base_shape, shape_by};
-ghost use Rattle.nxt_nbc_names.specs.Structs.{DeclaredStruct, Types, shapes_of};
+ghost use Rattle.nxt_model.specs.Nbc.Types.{Struct as TextStruct, type_shapes};
+ghost use Rattle.nxt_model.specs.Nbc.Structs.{Types};
 ghost use Rattle.nxt_nbc_names.specs.StructsSeen.{structs_seen};
 ghost use Rattle.nxt_nbc_kinds.specs.ConvertingStructs.{AreConversions};
 ghost use Rattle.nxt_nbc_kinds.specs.OperandsSeen.{shape_among, shape_seen};
@@ -24,7 +25,7 @@ use nxt_types::kind::Kind;
 /// What is seen of an operand that is a part of the type, among structs.
 #[tactic(auto, using(crate::proofs::TypeTests::lists_seen))]
 pub fn seen(structs: &[Struct<'_>], shape: NbcType) -> Seen
-    ensures { result ≡ seen_by (shape_by (shapes_of (structs_seen structs.now)) shape) }
+    ensures { result ≡ seen_by (shape_by (type_shapes (structs_seen structs.now)) shape) }
 {
     match shape.arrays {
         0 => seen_base(structs, shape.base),
@@ -34,7 +35,7 @@ pub fn seen(structs: &[Struct<'_>], shape: NbcType) -> Seen
 }
 
 fn seen_base(structs: &[Struct<'_>], base: NbcBase) -> Seen
-    ensures { result ≡ seen_by (base_shape (shapes_of (structs_seen structs.now)) base) }
+    ensures { result ≡ seen_by (base_shape (type_shapes (structs_seen structs.now)) base) }
 {
     match base {
         NbcBase::Number(_) => Seen::Number,
@@ -52,7 +53,7 @@ fn seen_base(structs: &[Struct<'_>], base: NbcBase) -> Seen
 // What is seen of a list, by the base of its elements.
 #[tactic(auto, using(crate::proofs::TypeTests::list_by_base))]
 fn seen_list(base: NbcBase) -> Seen
-    ensures { (ds : List DeclaredStruct) → result ≡ seen_by_element (base_shape (shapes_of ds) base) }
+    ensures { (ds : List TextStruct) → result ≡ seen_by_element (base_shape (type_shapes ds) base) }
 {
     match base {
         NbcBase::Number(Kind::Ubyte) => Seen::Text,
@@ -62,14 +63,14 @@ fn seen_list(base: NbcBase) -> Seen
 }
 
 fn is_number(structs: &[Struct<'_>], shape: NbcType) -> bool
-    ensures { result ≡ is_number_shape (shape_by (shapes_of (structs_seen structs.now)) shape) }
+    ensures { result ≡ is_number_shape (shape_by (type_shapes (structs_seen structs.now)) shape) }
 {
     seen(structs, shape).is_number()
 }
 
 // Whether it is a list of ubyte.
 fn is_text(structs: &[Struct<'_>], shape: NbcType) -> bool
-    ensures { result ≡ is_text_shape (shape_by (shapes_of (structs_seen structs.now)) shape) }
+    ensures { result ≡ is_text_shape (shape_by (type_shapes (structs_seen structs.now)) shape) }
 {
     seen(structs, shape).is_text()
 }
@@ -159,7 +160,7 @@ fn struct_position(shape: Option<NbcType>) -> Option<usize>
 // A struct's members, behind the structs before it.
 fn parts<'s, 'a>(structs: &'s [Struct<'a>], shape: Option<NbcType>) -> Option<StructParts<'s, 'a>>
     ensures { let whole = shape_among (structs_seen structs.now) shape in
-        MatchOption result (is_group whole ≡ false) (λ r. whole ≡ cluster_of (map (λ m. shape_by (shapes_of (structs_seen r.before.now)) m.shape) r.members.now)) }
+        MatchOption result (is_group whole ≡ false) (λ r. whole ≡ cluster_of (map (λ m. shape_by (type_shapes (structs_seen r.before.now)) m.shape) r.members.now)) }
 {
     let Some(position) = struct_position(shape) else {
         return None;
@@ -185,7 +186,7 @@ pub fn is_cluster_of(structs: &StructTable<'_>, call: Call, shape: Option<NbcTyp
 
 // Whether members, behind structs, are those of a call's cluster.
 fn are_fields(fields: &[Field], structs: &[Struct<'_>], members: &[Member<'_>]) -> bool
-    ensures { result ≡ are_fields_of fields.now (members_of (map (λ m. shape_by (shapes_of (structs_seen structs.now)) m.shape) members.now)) }
+    ensures { result ≡ are_fields_of fields.now (members_of (map (λ m. shape_by (type_shapes (structs_seen structs.now)) m.shape) members.now)) }
 {
     if fields.len() != members.len() {
         return false;
@@ -199,7 +200,7 @@ fn are_fields(fields: &[Field], structs: &[Struct<'_>], members: &[Member<'_>]) 
 }
 
 fn is_field(field: Field, structs: &[Struct<'_>], shape: NbcType) -> bool
-    ensures { result ≡ is_field_of field (shape_by (shapes_of (structs_seen structs.now)) shape) }
+    ensures { result ≡ is_field_of field (shape_by (type_shapes (structs_seen structs.now)) shape) }
 {
     match field {
         Field::Number => is_number(structs, shape),
@@ -210,7 +211,7 @@ fn is_field(field: Field, structs: &[Struct<'_>], shape: NbcType) -> bool
 
 // Whether it is a struct of two numbers.
 fn is_place(structs: &[Struct<'_>], shape: NbcType) -> bool
-    ensures { result ≡ is_place_shape (shape_by (shapes_of (structs_seen structs.now)) shape) }
+    ensures { result ≡ is_place_shape (shape_by (type_shapes (structs_seen structs.now)) shape) }
 {
     match parts(structs, Some(shape)) {
         Some(parts) => are_two_numbers(parts.before, parts.members),
@@ -219,7 +220,7 @@ fn is_place(structs: &[Struct<'_>], shape: NbcType) -> bool
 }
 
 fn are_two_numbers(structs: &[Struct<'_>], members: &[Member<'_>]) -> bool
-    ensures { result ≡ is_place_shape (cluster_of (map (λ m. shape_by (shapes_of (structs_seen structs.now)) m.shape) members.now)) }
+    ensures { result ≡ is_place_shape (cluster_of (map (λ m. shape_by (type_shapes (structs_seen structs.now)) m.shape) members.now)) }
 {
     match members {
         [x, y] => is_number(structs, x.shape) && is_number(structs, y.shape),

@@ -1,33 +1,54 @@
 -- The header's structs, one behind another.
-use Rattle.std.proofs.Common.{◌≡◌, ℕ, zero, suc, ◌+◌, ◌<◌, List, [], ◌∷◌, ◌++◌, map, take, length, slice_index_or, sym, ap, ap₂, ◌∙◌, arith}
-use Rattle.std.proofs.lemmas.List.{map-append}
-use Rattle.nxt_nbc_names.specs.HeaderSeen.{HeaderStruct, header_rows, header_row}
-use Rattle.nxt_nbc_names.specs.Structs.{DeclaredMember, header_from, header_member, header_struct}
-use Rattle.nxt_nbc_names.specs.StructsSeen.{struct_seen, structs_seen}
-use Rattle.nxt_nbc_names.specs.declared.structs.Struct.{Struct as ProgramStruct}
+use Rattle.std.proofs.Common.{◌≡◌, ℕ, zero, suc, ◌+◌, ◌<◌, List, [], ◌∷◌, ◌++◌, map, take, length, get_or, Bor, refl, sym, ap, subst, ◌∙◌, arith, rules}
+use Rattle.std.specs.Prelude.{⊤, slice_index_or}
+use Rattle.std.proofs.Math.ListN.{get_or-map}
+use Rattle.std.proofs.lemmas.List.{append_assoc, length-map, map_more}
+use Rattle.nxt_model.specs.declared.nbc.NbcType.{NbcType}
+use Rattle.nxt_model.specs.Nbc.Header.{header_structs, struct_behind}
+use Rattle.nxt_model.specs.Nbc.Types.{Struct, StructMember}
+use Rattle.nxt_nbc_names.specs.HeaderSeen.{IsNear, header_member_seen, header_row, header_struct_seen}
+use Rattle.nxt_nbc_names.specs.declared.header.HeaderStruct.{HeaderStruct as ProgramStruct}
 
-from_push : (line k : ℕ) (rows : List HeaderStruct) (i : ℕ) (d : HeaderStruct) → i < length rows
-    → header_from line k (take (suc i) rows) ≡ header_from line k (take i rows) ++ header_struct line (k + i) (slice_index_or rows i d) ∷ []
-from_push line k [] i d under = absurd (omega arith)
-from_push line k (s ∷ rows) zero d under = let e : k ≡ k + 0 = omega arith in ap (λ n. header_struct line n s ∷ []) e
-from_push line k (s ∷ rows) (suc i) d under =
-    let e : (k + 1) + i ≡ k + suc i = omega arith in
-    ap (λ rest. header_struct line k s ∷ rest)
-    (from_push line (k + 1) rows i d (omega arith)
-    ∙ ap (λ n. header_from line (k + 1) (take i rows) ++ header_struct line n (slice_index_or rows i d) ∷ []) e)
+pub header_length : length header_structs ≡ 17
+header_length = refl
 
--- with the struct at a position, by its name and members
-pub rows_more : (line at : ℕ) (name : List ℕ) (members : List DeclaredMember) (s : ProgramStruct) (old new : List ProgramStruct) → at < length header_rows
-    → name ≡ (header_row at).name → members ≡ map (header_member at) (header_row at).members → struct_seen s ≡ record { name = name; members = members; line = line }
-    → new ≡ old ++ s ∷ [] → structs_seen old ≡ header_from line 0 (take at header_rows)
-    → structs_seen new ≡ header_from line 0 (take (at + 1) header_rows)
-rows_more line at name members s old new under named held seen pushed before =
-    let one_more : suc at ≡ at + 1 = omega arith in
-    let at_zero : at ≡ 0 + at = omega arith in
-    let here : struct_seen s ≡ header_struct line at (header_row at) =
-    seen ∙ ap₂ (λ n ms. record { name = n; members = ms; line = line }) named held in
-    ap structs_seen pushed
-    ∙ map-append struct_seen old (s ∷ [])
-    ∙ ap₂ (λ xs x. xs ++ x ∷ []) before (here ∙ ap (λ n. header_struct line n (header_row at)) at_zero)
-    ∙ sym (from_push line 0 header_rows at _ under)
-    ∙ ap (λ n. header_from line 0 (take n header_rows)) one_more
+-- with the struct at a position
+pub rows_more : (first line at : ℕ) (old : List Struct) (s : Struct) → at < length header_structs → s ≡ struct_behind first line (header_row at)
+    → (old ++ map (struct_behind first line) (take at header_structs)) ++ s ∷ [] ≡ old ++ map (struct_behind first line) (take (at + 1) header_structs)
+rows_more first line at old s under e =
+    let front = map (struct_behind first line) (take at header_structs) in
+    append_assoc old front (s ∷ [])
+    ∙ ap (λ xs. old ++ xs) (ap (λ x. front ++ x ∷ []) e ∙ sym (map_more (struct_behind first line) header_structs at _ under))
+
+-- ---- types of members
+
+abbrev AreNear : List StructMember → Type 0
+AreNear [] = ⊤
+AreNear (m ∷ ms) = IsNear m.type × AreNear ms
+
+abbrev HaveNear : List Struct → Type 0
+HaveNear [] = ⊤
+HaveNear (s ∷ ss) = AreNear s.members × HaveNear ss
+
+near_row : (ss : List Struct) (d : Struct) (i : ℕ) → HaveNear ss → AreNear d.members → AreNear (slice_index_or ss i d).members
+near_row [] d i h last = last
+near_row (s ∷ ss) d zero h last = h.0
+near_row (s ∷ ss) d (suc i) h last = near_row ss d i h.1 last
+
+near_at : (ms : List StructMember) (i : ℕ) (m : StructMember) → AreNear ms → i < length ms → IsNear (get_or ms i m).type
+near_at [] i m h under = absurd (omega (arith, under))
+near_at (x ∷ ms) zero m h under = h.0
+near_at (x ∷ ms) (suc i) m h under = near_at ms i m h.1 (omega (arith, under))
+
+near_all : HaveNear header_structs
+near_all = search rules
+
+-- each is no struct behind the header's
+pub member_near : (s : ProgramStruct) (at i : ℕ) (m : Bor (List ℕ) × NbcType) → header_struct_seen s ≡ header_row at → i < length s.members.now
+    → IsNear (get_or s.members.now i m).1
+member_near s at i m seen under =
+    let ms = map header_member_seen s.members.now in
+    let members : ms ≡ (header_row at).members = ap (λ (x : Struct). x.members) seen in
+    let within : i < length ms = omega (arith, under, length-map s.members.now header_member_seen) in
+    let near : AreNear ms = subst AreNear (sym members) (near_row header_structs _ at near_all (tt, tt)) in
+    subst IsNear (ap (λ (x : StructMember). x.type) (get_or-map header_member_seen s.members.now i m)) (near_at ms i (header_member_seen m) near within)

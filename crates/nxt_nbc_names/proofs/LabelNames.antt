@@ -10,7 +10,7 @@ use Rattle.nxt_nbc_names.specs.declared.labels.Label.{Label as ProgramLabel}
 use Rattle.nxt_nbc_names.proofs.Positions.{position_front}
 
 -- the first item that passes stands at the first position
-find_by : {X : Type 0} (p : X → Bool) (xs : List X) → find p xs ≡ option_and_then (slice_get xs) (position p xs)
+pub find_by : {X : Type 0} (p : X → Bool) (xs : List X) → find p xs ≡ option_and_then (slice_get xs) (position p xs)
 find_by p [] = refl
 find_by p (x ∷ xs) =
     ap (cond (p x) (Some x)) (find_by p xs)

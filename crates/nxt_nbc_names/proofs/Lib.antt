@@ -6,7 +6,7 @@ mod Positions
 mod Constants
 -- How much arrays and members hold.
 mod Measures
--- Structs behind one another.
+-- How much structs behind one another hold.
 mod StructLists
 -- Where a name stands among structs.
 mod StructPlaces
@@ -14,9 +14,7 @@ mod StructPlaces
 mod StructTables
 -- The number or mutex that a name stands for.
 mod PlainTypes
--- The shape that a name stands for.
-mod NamedShapes
--- The members of structs as they are declared.
+-- The positions of members in front of others.
 mod MemberPlaces
 -- The structs of the header, one behind another.
 mod HeaderRows
@@ -26,8 +24,10 @@ mod BlockItems
 mod BlockLists
 -- The first label of a name by its position.
 mod LabelNames
--- The variables that lines declare, with one line more.
-mod VariableLines
+-- The sort of a name by its position.
+mod SortNames
+-- What lines declare, with one line more.
+mod DeclaredLines
 -- Structs that are read line by line.
 mod ReadLines
 -- What names stand for, by their parts.

@@ -4,7 +4,8 @@ use Rattle.std.proofs.lemmas.Bool.Decides.{nat_tests}
 use Rattle.std.proofs.lemmas.List.{map_more}
 use Rattle.nxt_types.specs.Shapes.{Shape, members, has_list, some_list}
 use Rattle.nxt_types.specs.Names.{size, sizes}
-use Rattle.nxt_model.specs.Nbc.Types.{arrays_of, depth_of, depth_among}
+use Rattle.nxt_model.specs.Nbc.Types.{depth_of, depth_among}
+use Rattle.nxt_model.specs.TextProgram.{arrays_of}
 use Rattle.nxt_nbc_names.specs.Extents.{extent, extent_of, extent_of_all}
 use Rattle.nxt_nbc_names.specs.declared.extent.Extent.{Extent}
 

@@ -3,8 +3,9 @@ use Rattle.std.proofs.Common.{◌≡◌, ℕ, Bool, true, false, List, [], ◌�
 use Rattle.std.specs.Option.{option_or}
 use Rattle.std.proofs.lemmas.List.Folds.{find-append}
 use Rattle.std.proofs.lemmas.Slice.Eq.{bytes_eq-Decides}
-use Rattle.nxt_types.specs.Shapes.{Shape, Mutex, Number}
 use Rattle.nxt_types.specs.declared.kind.Kind.{Kind}
+use Rattle.nxt_model.specs.declared.nbc.NbcBase.{NbcBase}
+use Rattle.nxt_model.specs.declared.nbc.NbcBase.TheVariants.{Number, Mutex}
 use Rattle.nxt_model.specs.Nbc.Types.{plain_type, plain_types}
 use Rattle.nxt_nbc_names.specs.StructsSeen.{number_seen}
 use Rattle.nxt_nbc_names.proofs.Constants.{find_seen}
@@ -19,24 +20,24 @@ turned a b = by (bytes_eq a b) (bytes_eq b a) refl refl
     by false false e f = e ∙ sym f
 
 module _ (numbers : List (Bor (List ℕ) × Kind)) (name : List ℕ) (all : map number_seen numbers ++ (codes "mutex", Mutex) ∷ [] ≡ plain_types) where
-  abbrev is_named : List ℕ × Shape → Bool
+  abbrev is_named : List ℕ × NbcBase → Bool
   is_named t = bytes_eq t.0 name
 
-  abbrev shape : List ℕ × Shape → Shape
-  shape t = t.1
+  abbrev base : List ℕ × NbcBase → NbcBase
+  base t = t.1
 
   type_of : (o : Option (Bor (List ℕ) × Kind)) (b : Bool) → o ≡ find (λ t. bytes_eq t.0.now name) numbers → bytes_eq (codes "mutex") name ≡ b
-      → option_map shape (option_or (option_map number_seen o) (cond b (Some (codes "mutex", Mutex)) None)) ≡ plain_type name
+      → option_map base (option_or (option_map number_seen o) (cond b (Some (codes "mutex", Mutex)) None)) ≡ plain_type name
   type_of o b e f =
       sym
-      (ap (λ ts. option_map shape (find is_named ts)) (sym all)
-      ∙ ap (option_map shape) (find-append is_named (map number_seen numbers) ((codes "mutex", Mutex) ∷ []))
-      ∙ ap (λ a. option_map shape (option_or a (find is_named ((codes "mutex", Mutex) ∷ [])))) (find_seen number_seen is_named numbers ∙ ap (option_map number_seen) (sym e))
-      ∙ ap (λ c. option_map shape (option_or (option_map number_seen o) (cond c (Some (codes "mutex", Mutex)) None))) f)
+      (ap (λ ts. option_map base (find is_named ts)) (sym all)
+      ∙ ap (option_map base) (find-append is_named (map number_seen numbers) ((codes "mutex", Mutex) ∷ []))
+      ∙ ap (λ a. option_map base (option_or a (find is_named ((codes "mutex", Mutex) ∷ [])))) (find_seen number_seen is_named numbers ∙ ap (option_map number_seen) (sym e))
+      ∙ ap (λ c. option_map base (option_or (option_map number_seen o) (cond c (Some (codes "mutex", Mutex)) None))) f)
 
   pub of_number : (t : Bor (List ℕ) × Kind) → Some t ≡ find (λ t. bytes_eq t.0.now name) numbers → Some (Number t.1) ≡ plain_type name
   of_number t e = type_of (Some t) (bytes_eq (codes "mutex") name) e refl
 
   pub of_other : (b : Bool) (text : List ℕ) → None ≡ find (λ t. bytes_eq t.0.now name) numbers → text ≡ codes "mutex" → b ≡ bytes_eq name text
-      → option_map shape (cond b (Some (codes "mutex", Mutex)) None) ≡ plain_type name
+      → option_map base (cond b (Some (codes "mutex", Mutex)) None) ≡ plain_type name
   of_other b text e same test = type_of None b e (turned (codes "mutex") name ∙ sym (test ∙ ap (bytes_eq name) same))

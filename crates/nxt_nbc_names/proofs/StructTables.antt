@@ -1,89 +1,58 @@
 -- Where a name stands in a table of structs.
-use Rattle.std.proofs.Common.{◌≡◌, ℕ, suc, zero, ◌+◌, Bool, true, false, cond, nat_lt, bytes_eq, List, [], ◌∷◌, map, drop, length, position, get_or, Option, Some, None, option_map, refl, sym, ap, subst, ◌∙◌, arith}
-use Rattle.std.specs.Option.{option_or}
-use Rattle.std.proofs.lemmas.List.{get_or-drop}
-use Rattle.nxt_nbc_names.specs.Structs.{DeclaredStruct, Rises, Types, declared, header_declared, is_before}
-use Rattle.nxt_nbc_names.specs.StructsSeen.{struct_seen, structs_seen}
-use Rattle.nxt_nbc_names.specs.Inside.Structs.{IsStructTable, types_seen}
+use Rattle.std.proofs.Common.{◌≡◌, ℕ, Bool, cond, nat_lt, bytes_eq, List, [], ◌∷◌, ◌++◌, map, position, get_or, Some, None, sym, ap, subst, ◌∙◌}
+use Rattle.std.proofs.Math.ListN.{get_or-map}
+use Rattle.std.proofs.lemmas.List.{map-append}
+use Rattle.nxt_model.specs.Nbc.Types.{Struct, StructMember, is_before}
+use Rattle.nxt_nbc_names.specs.Structs.{Rises, RisesTo}
+use Rattle.nxt_nbc_names.specs.StructsSeen.{AreMeasured, struct_seen, structs_seen}
+use Rattle.nxt_nbc_names.specs.Inside.Structs.{IsStructTable}
 use Rattle.nxt_nbc_names.specs.declared.structs.Struct.{Struct as ProgramStruct}
 use Rattle.nxt_nbc_names.proofs.Positions.{position_map}
-use Rattle.nxt_nbc_names.proofs.StructPlaces.{is_named, kept_before, none_named, own_place_before, position_append}
+use Rattle.nxt_nbc_names.proofs.ReadLines.{rises_push, rises_still}
+use Rattle.nxt_nbc_names.proofs.StructPlaces.{is_named, kept_before, none_named, place_before}
 
--- ---- the header's, and a text's own behind them
-
--- the header's stand in front
-pub place_in_front : (p : DeclaredStruct → Bool) (t : Types) (i : ℕ) → Some i ≡ position p (header_declared t.included) → Some i ≡ position p (declared t)
-place_in_front p t i e =
-    sym
-    (position_append p (header_declared t.included) t.own
-    ∙ ap (λ o. option_or o (option_map (λ k. k + length (header_declared t.included)) (position p t.own))) (sym e))
-
-pub place_behind : (p : DeclaredStruct → Bool) (t : Types) (o : Option ℕ) → None ≡ position p (header_declared t.included)
-    → o ≡ option_map (λ k. k + length (header_declared t.included)) (position p t.own) → o ≡ position p (declared t)
-place_behind p t o none e =
-    e
-    ∙ sym
-    (position_append p (header_declared t.included) t.own
-    ∙ ap (λ h. option_or h (option_map (λ k. k + length (header_declared t.included)) (position p t.own))) (sym none))
-
--- ---- a text's own
-
-get_or_seen : {X Y : Type 0} (f : X → Y) (xs : List X) (i : ℕ) (d : X) → get_or (map f xs) i (f d) ≡ f (get_or xs i d)
-get_or_seen f [] i d = refl
-get_or_seen f (x ∷ xs) zero d = refl
-get_or_seen f (x ∷ xs) (suc i) d = get_or_seen f xs i d
-
--- no struct of the text's own has the name
-pub own_none : (f : ℕ → ℕ) (name : List ℕ) (own : List DeclaredStruct) (line : ℕ) → None ≡ option_map f (position (is_named name) own) → None ≡ option_map f (position (is_before line name) own)
-own_none f name own line gone = sym (ap (option_map f) (none_named line name own (by (position (is_named name) own) gone)))
-  where
-    by : (o : Option ℕ) → None ≡ option_map f o → o ≡ None
-    by None e = refl
-    by (Some i) e = let f : ⊥ = cc in absurd f
-
-module _ (included : Option ℕ) (structs : List ProgramStruct) (kept : List (List ℕ)) (t : Types) (whole : IsStructTable included structs kept) (is : types_seen included structs ≡ t) (name : List ℕ) where
-  abbrev behind_header : ℕ → ℕ
-  behind_header i = i + length (header_declared t.included)
-
+module _ (structs : List ProgramStruct) (kept : List (List ℕ)) (types : List Struct) (whole : IsStructTable structs kept) (is : structs_seen structs ≡ types)
+    (name : List ℕ) (line : ℕ) where
   -- among the names
-  pub name_place : position (λ n. bytes_eq n name) kept ≡ position (is_named name) t.own
+  name_place : position (λ n. bytes_eq n name) kept ≡ position (is_named name) types
   name_place =
       ap (position (λ n. bytes_eq n name)) whole.names
-      ∙ position_map (λ (s : DeclaredStruct). s.name) (λ n. bytes_eq n name) (types_seen included structs).own
-      ∙ ap (λ u. position (is_named name) u.own) is
+      ∙ position_map (λ (s : Struct). s.name) (λ n. bytes_eq n name) (structs_seen structs)
+      ∙ ap (position (is_named name)) is
 
-  -- the struct of the text's own at a position
-  own_struct : (i : ℕ) (s : ProgramStruct) → s ≡ get_or structs (behind_header i) s → get_or t.own i (struct_seen s) ≡ struct_seen s
-  own_struct i s there =
-      let n = length (header_declared t.included) in
-      let order : n + i ≡ i + n = omega arith in
-      ap (λ u. get_or u.own i (struct_seen s)) (sym is)
-      ∙ ap (λ u. get_or (drop (length (header_declared u.included)) (structs_seen structs)) i (struct_seen s)) is
-      ∙ get_or-drop n (structs_seen structs) i (struct_seen s)
-      ∙ ap (λ k. get_or (structs_seen structs) k (struct_seen s)) order
-      ∙ get_or_seen struct_seen structs (behind_header i) s
-      ∙ sym (ap struct_seen there)
-
-  own_before : (line : ℕ) (d : DeclaredStruct) → position (is_before line name) t.own ≡ kept_before line t.own d (position (is_named name) t.own)
-  own_before line d = own_place_before 0 line name t.own d (subst (λ u. Rises 0 u.own) is whole.rises)
+  -- no struct has the name
+  pub before_none : None ≡ position (λ n. bytes_eq n name) kept → None ≡ position (is_before line name) types
+  before_none gone = sym (none_named line name types (sym (gone ∙ name_place)))
 
   -- the first that has it
-  pub own_first : (line k : ℕ) (s : ProgramStruct) (b : Bool) → Some k ≡ option_map behind_header (position (is_named name) t.own) → s ≡ get_or structs k s → nat_lt s.line line ≡ b
-      → cond b (Some k) None ≡ option_map behind_header (position (is_before line name) t.own)
-  own_first line k s b first there test = by (position (is_named name) t.own) first (own_before line (struct_seen s))
-    where
-      either : (a : Bool) (i : ℕ) → cond a (Some (behind_header i)) None ≡ option_map behind_header (cond a (Some i) None)
-      either true i = refl
-      either false i = refl
+  pub before_first : (i : ℕ) (s : ProgramStruct) (b : Bool) → Some i ≡ position (λ n. bytes_eq n name) kept → s ≡ get_or structs i s → nat_lt s.line line ≡ b
+      → cond b (Some i) None ≡ position (is_before line name) types
+  before_first i s b first there test =
+      let at : get_or types i (struct_seen s) ≡ struct_seen s =
+      ap (λ ts. get_or ts i (struct_seen s)) (sym is) ∙ get_or-map struct_seen structs i s ∙ sym (ap struct_seen there) in
+      sym
+      (place_before 0 line name types (struct_seen s) (subst (Rises 0) is whole.rises)
+      ∙ ap (kept_before line types (struct_seen s)) (sym (first ∙ name_place))
+      ∙ ap (λ (u : Struct). cond (nat_lt u.line line) (Some i) None) at
+      ∙ ap (λ a. cond a (Some i) None) test)
 
-      by : (o : Option ℕ) → Some k ≡ option_map behind_header o → position (is_before line name) t.own ≡ kept_before line t.own (struct_seen s) o
-          → cond b (Some k) None ≡ option_map behind_header (position (is_before line name) t.own)
-      by None some e = let f : ⊥ = cc in absurd f
-      by (Some i) some e =
-          let here : k ≡ behind_header i = cc in
-          let at : s ≡ get_or structs (behind_header i) s = there ∙ ap (λ n. get_or structs n s) here in
-          ap (λ n. cond b (Some n) None) here
-          ∙ either b i
-          ∙ sym
-          (ap (option_map behind_header)
-          (e ∙ ap (λ (u : DeclaredStruct). cond (nat_lt u.line line) (Some i) None) (own_struct i s at) ∙ ap (λ a. cond a (Some i) None) test))
+-- ---- one more
+
+module _ (ss : List ProgramStruct) (s : ProgramStruct) (name : List ℕ) (ms : List StructMember) (line : ℕ)
+    (seen : struct_seen s ≡ record { name = name; members = ms; line = line }) (rises : RisesTo 0 line (structs_seen ss)) where
+  pub table_push : (kept : List (List ℕ)) → IsStructTable ss kept → AreMeasured (ss ++ s ∷ []) → IsStructTable (ss ++ s ∷ []) (kept ++ name ∷ [])
+  table_push kept whole measured =
+      let one_more = map-append struct_seen ss (s ∷ []) in
+      record {
+        names =
+            ap (λ ns. ns ++ name ∷ []) whole.names
+            ∙ ap (λ (x : Struct). map (λ y. y.name) (structs_seen ss) ++ x.name ∷ []) (sym seen)
+            ∙ sym (map-append (λ (x : Struct). x.name) (structs_seen ss) (struct_seen s ∷ []))
+            ∙ sym (ap (map (λ x. x.name)) one_more);
+        rises = subst (Rises 0) (sym one_more) (rises_push 0 line (structs_seen ss) (struct_seen s) (ap (λ x. x.line) seen) rises);
+        measured = measured;
+      }
+
+  pub table_rises : RisesTo 0 line (structs_seen (ss ++ s ∷ []))
+  table_rises =
+      subst (RisesTo 0 line) (sym (map-append struct_seen ss (s ∷ []))) (rises_still 0 line (structs_seen ss) (struct_seen s) (ap (λ x. x.line) seen) rises)

@@ -4,7 +4,7 @@ pub mod Inside
 pub mod Extents
 -- The names of NXTDefs.h, as the program has them.
 pub mod HeaderSeen
--- The structs of a text, as they are declared and as the definitions see them.
+-- The lines on which the structs of a text are types.
 pub mod Structs
 -- The program's members of structs, as the definitions see them.
 pub mod MembersSeen
@@ -12,21 +12,15 @@ pub mod MembersSeen
 pub mod StructsSeen
 -- The program's labels, as the definitions see them.
 pub mod LabelsSeen
--- The variables of a text, as they are declared and as the definitions see them.
-pub mod Variables
 -- The program's variables, as the definitions see them.
 pub mod VariablesSeen
 -- The order of blocks by their numbers.
 pub mod Blocks
 -- The program's blocks, as the definitions see them.
 pub mod BlocksSeen
--- Structs as they are read line by line.
-pub mod Reading
+-- The names that a text declares, as the definitions see them.
+pub mod NamesSeen
 -- What a text declares, as the definitions see it.
 pub mod SourceSeen
--- The members of types, one step at a time.
-pub mod Members
--- Blocks by their names.
-pub mod Denoted
 -- What an operand of the program stands for, as the definitions see it.
 pub mod DenotedSeen

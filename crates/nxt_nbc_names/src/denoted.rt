@@ -1,13 +1,16 @@
 // What an operand stands for.
 
-ghost use Rattle.std.specs.Prelude.{◌≡◌, [], ◌∷◌, None, slice_get, IfOk};
+ghost use Rattle.std.specs.Prelude.{◌≡◌, [], ◌∷◌, slice_get, IfOk};
 ghost use Rattle.nxt_model.specs.Nbc.Forms.{Named};
-ghost use Rattle.nxt_model.specs.Nbc.Text.{by_variable, denoted, is_left_out, is_struct_at, number_named, path_in};
+ghost use Rattle.nxt_model.specs.Nbc.Text.{a_block, a_variable, alone, block_by, denoted, is_left_out, of_header, path_in, predefined, variable_named};
 ghost use Rattle.nxt_nbc_lines.specs.Seen.{names_seen, term_seen};
-ghost use Rattle.nxt_nbc_names.specs.Denoted.{block_by};
+ghost use Rattle.nxt_model.specs.Nbc.Header.{constant_named, is_header_struct};
+ghost use Rattle.nxt_model.specs.Nbc.Structs.{Types};
 ghost use Rattle.nxt_nbc_names.specs.DenotedSeen.{denoted_seen};
 ghost use Rattle.nxt_nbc_names.specs.SourceSeen.{source_seen};
 
+use crate::header::{constant, is_header_struct};
+use crate::names::NameSort;
 use crate::source::Source;
 use nxt_model::nbc::NbcType;
 use nxt_nbc_lines::Term;
@@ -66,9 +69,26 @@ impl<'f, 'a> Source<'f, 'a> {
     ) -> Result<Denoted<'a>, NoMemory>
         ensures { IfOk result (λ d. denoted_seen self.now.structs d ≡ denoted (source_seen self.now) line (Named (name.now ∷ names_seen members.now))) }
     {
+        match self.names.sort(name) {
+            Some(NameSort::Variable) => self.variable(alloc, name, members),
+            Some(NameSort::Struct) => Ok(alone(members, Denoted::Type)),
+            Some(NameSort::Block) => Ok(alone(members, self.named_block(name))),
+            None => Ok(alone(members, self.predefined(line, name))),
+        }
+    }
+
+    // The part of the variable of a name to which names of members lead.
+    fn variable(
+        &self,
+        alloc: Global,
+        name: &'a [u8],
+        members: &[&'a [u8]],
+    ) -> Result<Denoted<'a>, NoMemory>
+        ensures { IfOk result (λ d. denoted_seen self.now.structs d ≡ a_variable (source_seen self.now) (variable_named (source_seen self.now) name.now) (names_seen members.now)) }
+    {
         match self.variables.position(name) {
             Some(variable) => self.part(alloc, variable, members),
-            None => Ok(self.other(line, name, members)),
+            None => Ok(Denoted::Missing),
         }
     }
 
@@ -84,59 +104,24 @@ impl<'f, 'a> Source<'f, 'a> {
         let Some(declared) = self.variables.as_slice().get(variable) else {
             return Ok(Denoted::Missing);
         };
-        match self.structs.member_path(alloc, declared.of, members)? {
-            Some((path, of)) => Ok(Denoted::Part(Part {
+        match self.structs.member_path(alloc, declared.shape, members)? {
+            Some((path, shape)) => Ok(Denoted::Part(Part {
                 variable,
                 path,
-                shape: self.structs.first_shape(of),
+                shape,
             })),
             None => Ok(Denoted::Missing),
         }
     }
 
-    // What a name that is no variable's stands for: it has no members.
-    fn other(&self, line: u32, name: &'a [u8], members: &[&'a [u8]]) -> Denoted<'a>
-        ensures { denoted_seen self.now.structs result ≡ by_variable (source_seen self.now) line None name.now (names_seen members.now) }
-    {
-        match members {
-            [] => self.alone(line, name),
-            [_, ..] => Denoted::Missing,
-        }
-    }
-
-    // What a name that is no variable's stands for, where it has no members.
-    fn alone(&self, line: u32, name: &'a [u8]) -> Denoted<'a>
-        ensures { denoted_seen self.now.structs result ≡ by_variable (source_seen self.now) line None name.now [] }
-    {
-        match self.number(line, name) {
-            Some(number) => Denoted::Number(i64::from(number)),
-            None => self.unnumbered(line, name),
-        }
-    }
-
-    // The same where no number of NXTDefs.h has the name.
-    fn unnumbered(&self, line: u32, name: &'a [u8]) -> Denoted<'a>
-        ensures { None ≡ number_named (source_seen self.now) line name.now → denoted_seen self.now.structs result ≡ by_variable (source_seen self.now) line None name.now [] }
+    // The block of a name.
+    fn named_block(&self, name: &'a [u8]) -> Denoted<'a>
+        ensures { denoted_seen self.now.structs result ≡ a_block (block_by (source_seen self.now) name.now) }
     {
         match self.block(name) {
             Some((number, subroutine)) => Denoted::Block(number, subroutine),
-            None if self.is_struct(line, name) => Denoted::Type,
             None => Denoted::Missing,
         }
-    }
-
-    // Whether a name is that of a struct, at a line.
-    fn is_struct(&self, line: u32, name: &'a [u8]) -> bool
-        ensures { result ≡ is_struct_at (source_seen self.now) line name.now }
-    {
-        self.structs.is_struct(name, line)
-    }
-
-    // The number of NXTDefs.h that a name stands for, at a line.
-    fn number(&self, line: u32, name: &'a [u8]) -> Option<u16>
-        ensures { result ≡ number_named (source_seen self.now) line name.now }
-    {
-        self.structs.number(name, line)
     }
 
     // The number of the block of a name, and whether it is a subroutine.
@@ -148,6 +133,17 @@ impl<'f, 'a> Source<'f, 'a> {
         Some((number, block.subroutine))
     }
 
+    // What a name that the text doesn't declare stands for, at a line: the names of NXTDefs.h are known behind its line.
+    fn predefined(&self, line: u32, name: &'a [u8]) -> Denoted<'a>
+        ensures { denoted_seen self.now.structs result ≡ predefined (source_seen self.now) line name.now }
+    {
+        if self.structs.is_included_before(line) {
+            of_header(name)
+        } else {
+            Denoted::Missing
+        }
+    }
+
     /// Whether an operand is the name of what is left out, at a line.
     pub fn is_left_out(&self, line: u32, term: &Term<'a>) -> bool
         ensures { result ≡ is_left_out (source_seen self.now) line (term_seen term.now) }
@@ -156,5 +152,26 @@ impl<'f, 'a> Source<'f, 'a> {
             Some(name) => self.structs.is_included_before(line) && name == "NA".as_bytes(),
             None => false,
         }
+    }
+}
+
+// What a name of NXTDefs.h stands for.
+fn of_header<'a>(name: &[u8]) -> Denoted<'a>
+    ensures { (t : Types) → denoted_seen t result ≡ of_header (constant_named name.now) (is_header_struct name.now) }
+{
+    match constant(name) {
+        Some(number) => Denoted::Number(i64::from(number)),
+        None if is_header_struct(name) => Denoted::Type,
+        None => Denoted::Missing,
+    }
+}
+
+// What a name stands for that has no members.
+fn alone<'a>(members: &[&'a [u8]], denoted: Denoted<'a>) -> Denoted<'a>
+    ensures { (t : Types) → denoted_seen t result ≡ alone (names_seen members.now) (denoted_seen t denoted.entry) }
+{
+    match members {
+        [] => denoted,
+        [_, ..] => Denoted::Missing,
     }
 }

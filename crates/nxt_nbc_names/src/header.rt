@@ -1,14 +1,12 @@
 // The names of NXTDefs.h.
 
-ghost use Rattle.std.specs.Prelude.{◌≡◌, ◌||◌, ◌++◌, bytes_eq, find, is_some, map, position};
+ghost use Rattle.std.specs.Prelude.{◌≡◌, ◌||◌, ◌++◌, bytes_eq, find, is_some, map};
+ghost use Rattle.std.specs.List.{list_any};
 ghost use Rattle.nxt_types.specs.Calls.{all_calls, call_name};
-ghost use Rattle.nxt_model.specs.Nbc.Header.{call_names, constants, constant_named, header_struct_named};
-ghost use Rattle.nxt_nbc_lines.specs.Seen.{type_seen};
-ghost use Rattle.nxt_nbc_names.specs.HeaderSeen.{constant_seen, header_names, header_row, header_shape, header_struct_seen, header_type};
+ghost use Rattle.nxt_model.specs.Nbc.Header.{call_names, constants, constant_named, is_header_struct};
+ghost use Rattle.nxt_nbc_names.specs.HeaderSeen.{constant_seen, header_row, header_struct_seen};
 
-use MemberType::{Byte, Dword, Location, Sbyte, Size, Sword, Text, Word};
 use nxt_model::nbc::{NbcBase, NbcType};
-use nxt_nbc_lines::TypeName;
 use nxt_types::calls::{ALL_CALLS, Call};
 use nxt_types::kind::Kind;
 
@@ -140,184 +138,169 @@ fn call_named(name: &[u8]) -> Option<Call>
 
 // ---- structs
 
-/// The type of a member of a struct of NXTDefs.h.
-#[derive(Clone, Copy, PartialEq, Eq, Debug)]
-pub enum MemberType {
-    Byte,
-    Sbyte,
-    Word,
-    Sword,
-    Dword,
-    /// A list of bytes.
-    Text,
-    Location,
-    Size,
-}
+/// The types of the members of the structs of NXTDefs.h.
+const BYTE: NbcType = NbcType {
+    base: NbcBase::Number(Kind::Ubyte),
+    arrays: 0,
+};
 
-impl MemberType {
-    /// The type by its name.
-    pub fn name(self) -> TypeName<'static>
-        ensures { type_seen result ≡ header_type self }
-    {
-        let (name, arrays) = match self {
-            MemberType::Byte => ("byte", 0),
-            MemberType::Sbyte => ("sbyte", 0),
-            MemberType::Word => ("word", 0),
-            MemberType::Sword => ("sword", 0),
-            MemberType::Dword => ("dword", 0),
-            MemberType::Text => ("byte", 1),
-            MemberType::Location => ("TLocation", 0),
-            MemberType::Size => ("TSize", 0),
-        };
-        TypeName {
-            name: name.as_bytes(),
-            arrays,
-        }
-    }
+const SBYTE: NbcType = NbcType {
+    base: NbcBase::Number(Kind::Sbyte),
+    arrays: 0,
+};
 
-    /// The type by its parts.
-    pub fn shape(self) -> NbcType
-        ensures { result ≡ header_shape self }
-    {
-        let (base, arrays) = match self {
-            MemberType::Byte => (NbcBase::Number(Kind::Ubyte), 0),
-            MemberType::Sbyte => (NbcBase::Number(Kind::Sbyte), 0),
-            MemberType::Word => (NbcBase::Number(Kind::Uword), 0),
-            MemberType::Sword => (NbcBase::Number(Kind::Sword), 0),
-            MemberType::Dword => (NbcBase::Number(Kind::Ulong), 0),
-            MemberType::Text => (NbcBase::Number(Kind::Ubyte), 1),
-            MemberType::Location => (NbcBase::Struct(LOCATION), 0),
-            MemberType::Size => (NbcBase::Struct(SIZE), 0),
-        };
-        NbcType { base, arrays }
-    }
-}
+const WORD: NbcType = NbcType {
+    base: NbcBase::Number(Kind::Uword),
+    arrays: 0,
+};
 
-/// The positions of `TLocation` and `TSize` among the structs of NXTDefs.h.
-const LOCATION: usize = 0;
+const SWORD: NbcType = NbcType {
+    base: NbcBase::Number(Kind::Sword),
+    arrays: 0,
+};
 
-const SIZE: usize = 1;
+const DWORD: NbcType = NbcType {
+    base: NbcBase::Number(Kind::Ulong),
+    arrays: 0,
+};
+
+/// A list of bytes.
+const TEXT: NbcType = NbcType {
+    base: NbcBase::Number(Kind::Ubyte),
+    arrays: 1,
+};
+
+/// `TLocation` and `TSize`, by their positions among the structs of NXTDefs.h.
+const LOCATION: NbcType = NbcType {
+    base: NbcBase::Struct(0),
+    arrays: 0,
+};
+
+const SIZE: NbcType = NbcType {
+    base: NbcBase::Struct(1),
+    arrays: 0,
+};
 
 /// How many structs NXTDefs.h has.
 pub const HEADER_STRUCTS: usize = 17;
 
-/// A struct of NXTDefs.h.
+/// A struct of NXTDefs.h: its name, and its members with their types, as it stands behind no structs but those of NXTDefs.h.
 #[derive(Clone, Copy)]
 pub struct HeaderStruct {
     pub name: &'static str,
-    pub members: &'static [(&'static str, MemberType)],
+    pub members: &'static [(&'static str, NbcType)],
 }
 
 /// The structs of NXTDefs.h.
 const STRUCTS: [HeaderStruct; HEADER_STRUCTS] = [
     HeaderStruct {
         name: "TLocation",
-        members: &[("X", Sword), ("Y", Sword)],
+        members: &[("X", SWORD), ("Y", SWORD)],
     },
     HeaderStruct {
         name: "TSize",
-        members: &[("Width", Sword), ("Height", Sword)],
+        members: &[("Width", SWORD), ("Height", SWORD)],
     },
     HeaderStruct {
         name: "TSoundPlayTone",
         members: &[
-            ("Result", Sbyte),
-            ("Frequency", Word),
-            ("Duration", Word),
-            ("Loop", Byte),
-            ("SoundLevel", Byte),
+            ("Result", SBYTE),
+            ("Frequency", WORD),
+            ("Duration", WORD),
+            ("Loop", BYTE),
+            ("SoundLevel", BYTE),
         ],
     },
     HeaderStruct {
         name: "TSoundGetState",
-        members: &[("State", Byte), ("Flags", Byte)],
+        members: &[("State", BYTE), ("Flags", BYTE)],
     },
     HeaderStruct {
         name: "TSoundSetState",
-        members: &[("Result", Byte), ("State", Byte), ("Flags", Byte)],
+        members: &[("Result", BYTE), ("State", BYTE), ("Flags", BYTE)],
     },
     HeaderStruct {
         name: "TDrawText",
         members: &[
-            ("Result", Sbyte),
-            ("Location", Location),
-            ("Text", Text),
-            ("Options", Dword),
+            ("Result", SBYTE),
+            ("Location", LOCATION),
+            ("Text", TEXT),
+            ("Options", DWORD),
         ],
     },
     HeaderStruct {
         name: "TDrawPoint",
         members: &[
-            ("Result", Sbyte),
-            ("Location", Location),
-            ("Options", Dword),
+            ("Result", SBYTE),
+            ("Location", LOCATION),
+            ("Options", DWORD),
         ],
     },
     HeaderStruct {
         name: "TDrawLine",
         members: &[
-            ("Result", Sbyte),
-            ("StartLoc", Location),
-            ("EndLoc", Location),
-            ("Options", Dword),
+            ("Result", SBYTE),
+            ("StartLoc", LOCATION),
+            ("EndLoc", LOCATION),
+            ("Options", DWORD),
         ],
     },
     HeaderStruct {
         name: "TDrawCircle",
         members: &[
-            ("Result", Sbyte),
-            ("Center", Location),
-            ("Size", Byte),
-            ("Options", Dword),
+            ("Result", SBYTE),
+            ("Center", LOCATION),
+            ("Size", BYTE),
+            ("Options", DWORD),
         ],
     },
     HeaderStruct {
         name: "TDrawRect",
         members: &[
-            ("Result", Sbyte),
-            ("Location", Location),
-            ("Size", Size),
-            ("Options", Dword),
+            ("Result", SBYTE),
+            ("Location", LOCATION),
+            ("Size", SIZE),
+            ("Options", DWORD),
         ],
     },
     HeaderStruct {
         name: "TSetScreenMode",
-        members: &[("Result", Sbyte), ("ScreenMode", Dword)],
+        members: &[("Result", SBYTE), ("ScreenMode", DWORD)],
     },
     HeaderStruct {
         name: "TReadButton",
         members: &[
-            ("Result", Sbyte),
-            ("Index", Byte),
-            ("Pressed", Byte),
-            ("Count", Byte),
-            ("Reset", Byte),
+            ("Result", SBYTE),
+            ("Index", BYTE),
+            ("Pressed", BYTE),
+            ("Count", BYTE),
+            ("Reset", BYTE),
         ],
     },
     HeaderStruct {
         name: "TRandomNumber",
-        members: &[("Result", Sword)],
+        members: &[("Result", SWORD)],
     },
     HeaderStruct {
         name: "TGetStartTick",
-        members: &[("Result", Dword)],
+        members: &[("Result", DWORD)],
     },
     HeaderStruct {
         name: "TMessageWrite",
-        members: &[("Result", Sbyte), ("QueueID", Byte), ("Message", Text)],
+        members: &[("Result", SBYTE), ("QueueID", BYTE), ("Message", TEXT)],
     },
     HeaderStruct {
         name: "TMessageRead",
         members: &[
-            ("Result", Sbyte),
-            ("QueueID", Byte),
-            ("Remove", Byte),
-            ("Message", Text),
+            ("Result", SBYTE),
+            ("QueueID", BYTE),
+            ("Remove", BYTE),
+            ("Message", TEXT),
         ],
     },
     HeaderStruct {
         name: "TKeepAlive",
-        members: &[("Result", Dword)],
+        members: &[("Result", DWORD)],
     },
 ];
 
@@ -331,23 +314,22 @@ pub fn header_struct(position: usize) -> HeaderStruct
     }
 }
 
-/// The position of a struct of NXTDefs.h, by its name.
-pub fn header_position(name: &[u8]) -> Option<usize>
-    ensures { result ≡ position (λ n. bytes_eq n name.now) header_names }
+/// Whether a name is that of a struct of NXTDefs.h.
+pub fn is_header_struct(name: &[u8]) -> bool
+    ensures { result ≡ is_header_struct name.now }
 {
-    position_in(&STRUCTS, name)
+    has_struct(&STRUCTS, name)
 }
 
-// The position of the first of some structs with a name.
-fn position_in(structs: &[HeaderStruct], name: &[u8]) -> Option<usize>
-    ensures { result ≡ position (λ s. bytes_eq s.name.now name.now) structs.now }
+fn has_struct(structs: &[HeaderStruct], name: &[u8]) -> bool
+    ensures { result ≡ list_any (λ s. bytes_eq s.name.now name.now) structs.now }
 {
-    structs.iter().position(|s| s.name.as_bytes() == name)
+    structs.iter().any(|s| s.name.as_bytes() == name)
 }
 
 /// Whether NXTDefs.h has a name, for a number or for a struct.
 pub fn is_header_name(name: &[u8]) -> bool
-    ensures { result ≡ (is_some (constant_named name.now) || is_some (header_struct_named name.now)) }
+    ensures { result ≡ (is_some (constant_named name.now) || is_header_struct name.now) }
 {
-    constant(name).is_some() || header_position(name).is_some()
+    constant(name).is_some() || is_header_struct(name)
 }

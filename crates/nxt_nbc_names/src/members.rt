@@ -5,18 +5,15 @@ ghost use Rattle.nxt_nbc_names.specs.MembersSeen.{member_seen};
 
 use crate::name_table::NameTable;
 use nxt_model::nbc::NbcType;
-use nxt_nbc_lines::TypeName;
 use nxt_types::NoMemory;
 use std::alloc::Global;
 use std::marker::Model;
 
-/// A member of a struct: its name, its type by name and by its parts, and the line that declares it.
+/// A member of a struct: its name and its type.
 #[derive(Clone, Copy)]
 pub struct Member<'a> {
     pub name: &'a [u8],
-    pub of: TypeName<'a>,
     pub shape: NbcType,
-    pub line: u32,
 }
 
 /// The members of a struct, in the order of their declarations.
@@ -28,10 +25,10 @@ pub struct Members<'a> {
 
 impl<'a> Model for Members<'a> {
     ghost use Rattle.std.specs.Prelude.{◌≡◌, List, map};
-    ghost use Rattle.nxt_nbc_names.specs.Structs.{DeclaredMember};
+    ghost use Rattle.nxt_model.specs.Nbc.Types.{StructMember};
     ghost use Rattle.nxt_nbc_names.specs.MembersSeen.{member_seen};
 
-    ghost Value = { List DeclaredMember };
+    ghost Value = { List StructMember };
 
     ghost view = { λ m. map member_seen m.items.items };
 

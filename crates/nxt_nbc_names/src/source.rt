@@ -7,6 +7,7 @@ ghost use Rattle.nxt_nbc_lines.specs.Seen.{line_form_seen};
 ghost use Rattle.nxt_nbc_names.specs.SourceSeen.{source_seen};
 
 use crate::blocks::Blocks;
+use crate::names::Names;
 use crate::reading::structs_of;
 use crate::structs::StructTable;
 use crate::variables::Variables;
@@ -14,13 +15,14 @@ use nxt_nbc_lines::LineForm;
 use nxt_types::NoMemory;
 use std::alloc::Global;
 
-/// What a text declares (NBC Programmer's Guide, "Program Structure"): its types, its variables, and its threads and
-/// subroutines.
+/// What a text declares (NBC Programmer's Guide, "Program Structure"): its types, its variables, its threads and
+/// subroutines, and the names of all of them.
 #[derive(Drop)]
 pub struct Source<'f, 'a> {
     pub structs: StructTable<'a>,
     pub variables: Variables<'f, 'a>,
     pub blocks: Blocks<'f, 'a>,
+    pub names: Names<'a>,
 }
 
 impl<'f, 'a> Source<'f, 'a> {
@@ -32,10 +34,12 @@ impl<'f, 'a> Source<'f, 'a> {
         let structs = structs_of(alloc, lines)?;
         let variables = Variables::of(alloc, lines, &structs)?;
         let blocks = Blocks::of(alloc, lines)?;
+        let names = Names::of(alloc, lines)?;
         Ok(Source {
             structs,
             variables,
             blocks,
+            names,
         })
     }
 }

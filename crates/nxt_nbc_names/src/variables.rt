@@ -3,23 +3,20 @@
 ghost use Rattle.std.specs.Prelude.{◌≡◌, [], ◌∷◌, ◌++◌, bytes_eq, filter_map, map, option_map, position, IfOk, OnOk};
 ghost use Rattle.nxt_model.specs.Nbc.Text.{variable_of};
 ghost use Rattle.nxt_nbc_lines.specs.Seen.{line_form_seen};
-ghost use Rattle.nxt_nbc_names.specs.Structs.{structs_in};
-ghost use Rattle.nxt_nbc_names.specs.Variables.{variable_in, variables_in};
 ghost use Rattle.nxt_nbc_names.specs.VariablesSeen.{variable_seen};
 
 use crate::name_table::NameTable;
 use crate::structs::StructTable;
 use nxt_model::nbc::NbcType;
-use nxt_nbc_lines::{Form, Given, LineForm, TypeName};
+use nxt_nbc_lines::{Form, Given, LineForm};
 use nxt_types::NoMemory;
 use std::alloc::Global;
 use std::marker::Model;
 
-/// A declared variable: its name, its type by name and by its parts, what it starts with, and the line that declares it.
+/// A declared variable: its name, its type, what it starts with, and the line that declares it.
 #[derive(Clone, Copy)]
 pub struct Variable<'f, 'a> {
     pub name: &'a [u8],
-    pub of: TypeName<'a>,
     pub shape: NbcType,
     pub given: &'f Given<'a>,
     pub line: u32,
@@ -34,10 +31,10 @@ pub struct Variables<'f, 'a> {
 
 impl<'f, 'a> Model for Variables<'f, 'a> {
     ghost use Rattle.std.specs.Prelude.{◌≡◌, List, map};
-    ghost use Rattle.nxt_nbc_names.specs.Variables.{DeclaredVariable};
+    ghost use Rattle.nxt_model.specs.Nbc.Text.{Variable as TextVariable};
     ghost use Rattle.nxt_nbc_names.specs.VariablesSeen.{variable_seen};
 
-    ghost Value = { List DeclaredVariable };
+    ghost Value = { List TextVariable };
 
     ghost view = { λ v. map variable_seen v.items.items };
 
@@ -60,7 +57,7 @@ impl<'f, 'a> Variables<'f, 'a> {
         lines: &'f [LineForm<'a>],
         structs: &StructTable<'a>,
     ) -> Result<Variables<'f, 'a>, NoMemory>
-        ensures { IfOk result (λ vs. variables_in structs.now vs ≡ filter_map (variable_of (structs_in structs.now)) (map line_form_seen lines.now)) }
+        ensures { IfOk result (λ vs. vs ≡ filter_map (variable_of structs.now.structs) (map line_form_seen lines.now)) }
     {
         let mut variables = Variables::new(alloc);
         for line in lines {
@@ -100,12 +97,11 @@ fn variable_of<'f, 'a>(
     line: &'f LineForm<'a>,
     structs: &StructTable<'a>,
 ) -> Option<Variable<'f, 'a>>
-    ensures { option_map (λ v. variable_in structs.now (variable_seen v)) result ≡ variable_of (structs_in structs.now) (line_form_seen line.now) }
+    ensures { option_map variable_seen result ≡ variable_of structs.now.structs (line_form_seen line.now) }
 {
     match &line.form {
         Form::Declare(name, of, given) => Some(Variable {
             name: *name,
-            of: *of,
             shape: structs.shape(*of, line.line),
             given,
             line: line.line,

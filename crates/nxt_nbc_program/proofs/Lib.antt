@@ -4,8 +4,6 @@ pub mod Laws
 mod Numbers
 -- The number of a block is below how many they are.
 mod BlockNumbers
--- Structs by the types of their members have the shapes of those that were declared.
-mod StructShapes
 -- The links of blocks, with one block more.
 mod LinkLists
 -- Operands by the classes of their positions.

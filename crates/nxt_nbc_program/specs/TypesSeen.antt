@@ -1,14 +1,9 @@
--- The program's structs and variables, as the definitions see them.
-use Rattle.std.specs.Prelude.{map}
+-- The program's variables, as the definitions see them.
+use Rattle.std.specs.Prelude.{List}
 use Rattle.nxt_model.specs.TextProgram.{Variable}
-use Rattle.nxt_model.specs.declared.nbc.NbcStruct.{NbcStruct}
 use Rattle.nxt_model.specs.declared.nbc.NbcVar.{NbcVar}
-use Rattle.nxt_nbc_names.specs.Structs.{DeclaredStruct, Types, shape_in}
+use Rattle.nxt_model.specs.Nbc.Types.{Struct, shape_in}
 
--- a struct by the types of its members
-abbrev pub members_of : DeclaredStruct → NbcStruct
-members_of s = record { members = map (λ m. m.shape) s.members }
-
--- a variable, with its type among these
-abbrev pub var_in : Types → NbcVar → Variable
-var_in t v = record { shape = shape_in t v.shape; start = v.start }
+-- a variable, with its type among these structs
+abbrev pub var_in : List Struct → NbcVar → Variable
+var_in types v = record { shape = shape_in types v.shape; start = v.start }

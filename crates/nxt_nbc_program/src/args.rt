@@ -7,7 +7,7 @@ ghost use Rattle.nxt_model.specs.Nbc.Text.{LabelAt, arg_of, args_of, denoted_arg
 ghost use Rattle.nxt_nbc_lines.specs.Seen.{term_seen, terms_seen};
 ghost use Rattle.nxt_nbc_names.specs.DenotedSeen.{denoted_seen};
 ghost use Rattle.nxt_nbc_names.specs.SourceSeen.{source_seen};
-ghost use Rattle.nxt_nbc_names.specs.Structs.{Types};
+ghost use Rattle.nxt_model.specs.Nbc.Structs.{Types};
 ghost use Rattle.nxt_nbc_program.specs.Classes.{is_optional};
 ghost use Rattle.nxt_nbc_program.specs.Fits.{AreBelow, IsDenoted, LabelsFit, SourceFits};
 

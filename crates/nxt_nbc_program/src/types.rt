@@ -1,15 +1,13 @@
 // Structs and variables.
 
-ghost use Rattle.std.specs.Prelude.{◌≡◌, map, IfOk};
+ghost use Rattle.std.specs.Prelude.{◌≡◌, List, map, IfOk};
 ghost use Rattle.nxt_model.specs.Nbc.Text.{program_var, start_of};
-ghost use Rattle.nxt_model.specs.TextProgram.{struct_shapes};
+ghost use Rattle.nxt_model.specs.Nbc.Types.{Struct as TextStruct, plain_struct};
 ghost use Rattle.nxt_nbc_lines.specs.Seen.{given_seen};
 ghost use Rattle.nxt_nbc_names.specs.MembersSeen.{member_seen};
-ghost use Rattle.nxt_nbc_names.specs.Structs.{Types, declared, shapes_of};
 ghost use Rattle.nxt_nbc_names.specs.StructsSeen.{structs_seen};
-ghost use Rattle.nxt_nbc_names.specs.Variables.{variables_in};
 ghost use Rattle.nxt_nbc_names.specs.VariablesSeen.{variable_seen};
-ghost use Rattle.nxt_nbc_program.specs.TypesSeen.{members_of, var_in};
+ghost use Rattle.nxt_nbc_program.specs.TypesSeen.{var_in};
 
 use nxt_model::nbc::{NbcStart, NbcStruct, NbcStructs, NbcTypes, NbcVar, NbcVars};
 use nxt_nbc_lines::Given;
@@ -20,13 +18,13 @@ use std::alloc::Global;
 
 /// The structs of a text, by the types of their members.
 pub fn structs_of(alloc: Global, structs: &StructTable<'_>) -> Result<NbcStructs, NoMemory>
-    ensures { IfOk result (λ ss. struct_shapes ss ≡ shapes_of (declared structs.now)) }
+    ensures { IfOk result (λ ss. ss ≡ map plain_struct structs.now.structs) }
 {
     listed_structs(alloc, structs.as_slice())
 }
 
 fn listed_structs(alloc: Global, structs: &[Struct<'_>]) -> Result<NbcStructs, NoMemory>
-    ensures { IfOk result (λ ss. ss ≡ map members_of (structs_seen structs.now)) }
+    ensures { IfOk result (λ ss. ss ≡ map plain_struct (structs_seen structs.now)) }
 {
     let mut listed = NbcStructs::new(alloc);
     for found in structs {
@@ -37,7 +35,7 @@ fn listed_structs(alloc: Global, structs: &[Struct<'_>]) -> Result<NbcStructs, N
 }
 
 fn types_of(alloc: Global, members: &[Member<'_>]) -> Result<NbcTypes, NoMemory>
-    ensures { IfOk result (λ ts. ts ≡ map (λ m. m.shape) (map member_seen members.now)) }
+    ensures { IfOk result (λ ts. ts ≡ map (λ m. m.type) (map member_seen members.now)) }
 {
     let mut types = NbcTypes::new(alloc);
     for member in members {
@@ -48,7 +46,7 @@ fn types_of(alloc: Global, members: &[Member<'_>]) -> Result<NbcTypes, NoMemory>
 
 /// The variables of a text.
 pub fn vars_of(alloc: Global, variables: &[Variable<'_, '_>]) -> Result<NbcVars, NoMemory>
-    ensures { IfOk result (λ vs. (t : Types) → map (var_in t) vs ≡ map program_var (variables_in t (map variable_seen variables.now))) }
+    ensures { IfOk result (λ vs. (types : List TextStruct) → map (var_in types) vs ≡ map (program_var types) (map variable_seen variables.now)) }
 {
     let mut vars = NbcVars::new(alloc);
     for variable in variables {

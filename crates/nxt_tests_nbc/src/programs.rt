@@ -6,7 +6,7 @@ use std::test::Fail;
 /// A text, and its program.
 type Case<'a> = (&'a [u8], &'a str);
 
-static PROGRAMS: [Case<'static>; 5] = [
+static PROGRAMS: [Case<'static>; 6] = [
     (
         b"thread main\nendt",
         "thread after 0 lowers []: 2 finclump Lt i0 i65535; ",
@@ -26,6 +26,10 @@ static PROGRAMS: [Case<'static>; 5] = [
     (
         b"#include \"NXTDefs.h\"\ndseg segment\nt TSoundPlayTone\ndseg ends\nthread main\nset t.Frequency, 440\nsyscall SoundPlayTone, t\nstrtonum t.Loop, NA, '5', NA, NA\nendt",
         "struct Sword Sword; struct Sword Sword; struct Sbyte Uword Uword Ubyte Ubyte; struct Ubyte Ubyte; struct Ubyte Ubyte Ubyte; struct Sbyte #0 Ubyte[] Ulong; struct Sbyte #0 Ulong; struct Sbyte #0 #0 Ulong; struct Sbyte #0 Ubyte Ulong; struct Sbyte #0 #1 Ulong; struct Sbyte Ulong; struct Sbyte Ubyte Ubyte Ubyte Ubyte; struct Sword; struct Ulong; struct Sbyte Ubyte Ubyte[]; struct Sbyte Ubyte Ubyte Ubyte[]; struct Ulong; var #2; thread after 0 lowers []: 6 set Lt v0[1] i440; 7 syscall Lt i10 v0[]; 8 strtonum Lt v0[3] - '5' - -; 9 finclump Lt i0 i65535; ",
+    ),
+    (
+        b"dseg segment\np struct\n x byte\np ends\nv p\ndseg ends\n#include \"NXTDefs.h\"\ndseg segment\nq struct\n l TLocation\n w p\nq ends\nt TDrawText\nz q\ndseg ends\nthread main\nset t.Location.Y, 5\nset z.l.X, 7\nset z.w.x, 9\nendt",
+        "struct Ubyte; struct Sword Sword; struct Sword Sword; struct Sbyte Uword Uword Ubyte Ubyte; struct Ubyte Ubyte; struct Ubyte Ubyte Ubyte; struct Sbyte #1 Ubyte[] Ulong; struct Sbyte #1 Ulong; struct Sbyte #1 #1 Ulong; struct Sbyte #1 Ubyte Ulong; struct Sbyte #1 #2 Ulong; struct Sbyte Ulong; struct Sbyte Ubyte Ubyte Ubyte Ubyte; struct Sword; struct Ulong; struct Sbyte Ubyte Ubyte[]; struct Sbyte Ubyte Ubyte Ubyte[]; struct Ulong; struct #1 #0; var #0; var #6; var #18; thread after 0 lowers []: 17 set Lt v1[1, 1] i5; 18 set Lt v2[0, 0] i7; 19 set Lt v2[1, 0] i9; 20 finclump Lt i0 i65535; ",
     ),
 ];
 

@@ -1,6 +1,6 @@
 -- What operands name is declared, with an entry among the variable's own.
 use Rattle.std.proofs.Common.{◌≡◌, ℕ, ◌<◌, Bool, true, false, List, [], ◌∷◌, map, length, pos, Option, Some, None, refl, sym, ap, subst, ◌∙◌}
-use Rattle.std.specs.Prelude.{if◌then◌else◌, ℤ, ⊤, nat_abs, option_map, option_and_then, slice_get, slice_index_or, zip}
+use Rattle.std.specs.Prelude.{if◌then◌else◌, ℤ, ⊤, nat_abs, option_map, slice_get, slice_index_or, zip}
 use Rattle.std.proofs.lemmas.Option.{get_or_from_slice_get, slice_get-map, slice_get_within}
 use Rattle.nxt_types.specs.Arithmetic.{cut}
 use Rattle.nxt_types.specs.Names.{size}
@@ -15,13 +15,15 @@ use Rattle.nxt_model.specs.declared.nbc.NbcArg.TheVariants as args
 use Rattle.nxt_model.specs.declared.nbc.NbcStatement.{NbcStatement}
 use Rattle.nxt_model.specs.Nbc.Forms as forms
 use Rattle.nxt_model.specs.Nbc.Forms.{Form, Term, Named, Literal, Quote, TypeName}
-use Rattle.nxt_model.specs.Nbc.Text.{Source, Variable, Block, Denoted, AVariable, ANumber, LabelAt, arg_of, args_of, block_at, block_named, by_variable, denoted, denoted_arg, dependents_of, ending, is_left_out, is_struct_at, is_word, label_arg, labels_from, member_of, named_block, number_arg, number_named, numbered, other_name, path_in, program_block, program_of, program_var, returning, statement, statements_in, variable_named}
-use Rattle.nxt_model.specs.Nbc.Types.{Found, member_path, shape_of}
+use Rattle.nxt_model.specs.Nbc.Text.{Source, Variable, Block, Denoted, AVariable, ANumber, LabelAt, a_block, a_variable, arg_of, args_of, block_by, by_sort, denoted, denoted_arg, dependents_of, ending, is_left_out, is_word, label_arg, labels_from, member_of, named_block, number_arg, numbered, path_in, program_block, program_of, program_var, returning, sort_named, statement, statements_in, variable_named, NameSort}
+use Rattle.nxt_model.specs.Nbc.Types.{Found, member_path, shape_in}
+use Rattle.nxt_model.specs.declared.nbc.NbcType.{NbcType}
 use Rattle.nxt_model.specs.Assembled.{entries_before}
 use Rattle.nxt_model.specs.TextProgram as program
 use Rattle.nxt_model.specs.TextProgram.{Text, declared}
 use Rattle.nxt_asm_parts.specs.Sound.{AreNamed, AreNamedIn, IsNamed}
-use Rattle.nxt_asm_laws.proofs.Laws.Lists.{Each, all_each, each_all, each_flat, each_got, each_map}
+use Rattle.nxt_asm_laws.proofs.Laws.Lists.{Each, all_each, each_all, each_flat, each_map}
+use Rattle.nxt_asm_laws.proofs.Laws.Denoted.{name_has}
 use Rattle.nxt_asm_laws.proofs.Laws.Paths.{IsWithin}
 
 -- ---- what an operand stands for
@@ -31,53 +33,46 @@ abbrev pub IsPart : List Shape → Denoted → Type 0
 IsPart ss (AVariable i path s) = (i < length ss) × (entries_before path (slice_index_or ss i Void) < size (slice_index_or ss i Void))
 IsPart ss d = ⊤
 
--- a variable has the shape of its type among all structs
-abbrev pub HasType : Source → Variable → Type 0
-HasType src v = v.shape ≡ shape_of src.types v.type
-
-module _ (src : Source) (within : (t : TypeName) (ns : List (List ℕ)) → IsWithin (shape_of src.types t) (member_path src.types t ns)) (typed : Each (HasType src) src.vars) where
+module _ (src : Source) (within : (t : NbcType) (ns : List (List ℕ)) → IsWithin (shape_in src.types t) (member_path src.types t ns)) where
   -- a variable stands among the declared shapes at its own position
-  shape_there : (i : ℕ) (v : Variable) → slice_get src.vars i ≡ Some v → slice_get (declared (program_of src)) i ≡ Some v.shape
+  shape_there : (i : ℕ) (v : Variable) → slice_get src.vars i ≡ Some v → slice_get (declared (program_of src)) i ≡ Some (shape_in src.types v.type)
   shape_there i v e =
       let shape = λ (x : program.Variable). x.shape in
-      slice_get-map shape (map program_var src.vars) i ∙ ap (option_map shape) (slice_get-map program_var src.vars i ∙ ap (option_map program_var) e)
+      let var = program_var src.types in
+      slice_get-map shape (map var src.vars) i ∙ ap (option_map shape) (slice_get-map var src.vars i ∙ ap (option_map var) e)
 
   -- members lead to a part of it
-  member_part : (i : ℕ) (v : Variable) (o : Option Found) → slice_get src.vars i ≡ Some v → IsWithin v.shape o → IsPart (declared (program_of src)) (member_of src i o)
+  member_part : (i : ℕ) (v : Variable) (o : Option Found) → slice_get src.vars i ≡ Some v → IsWithin (shape_in src.types v.type) o → IsPart (declared (program_of src)) (member_of src i o)
   member_part i v None e h = tt
   member_part i v (Some f) e h =
+      let s = shape_in src.types v.type in
       let there = shape_there i v e in
-      let at : slice_index_or (declared (program_of src)) i Void ≡ v.shape = get_or_from_slice_get (declared (program_of src)) i v.shape Void there in
-      (slice_get_within (declared (program_of src)) i v.shape there, subst (λ s. entries_before f.0 s < size s) (sym at) h)
+      let at : slice_index_or (declared (program_of src)) i Void ≡ s = get_or_from_slice_get (declared (program_of src)) i s Void there in
+      (slice_get_within (declared (program_of src)) i s there, subst (λ x. entries_before f.0 x < size x) (sym at) h)
 
   path_part : (i : ℕ) (ns : List (List ℕ)) (o : Option Variable) → slice_get src.vars i ≡ o → IsPart (declared (program_of src)) (path_in src i ns o)
   path_part i ns None e = tt
-  path_part i ns (Some v) e =
-      let same : v.shape ≡ shape_of src.types v.type = each_got (HasType src) src.vars i v typed e in
-      member_part i v (member_path src.types v.type ns) e (subst (λ s. IsWithin s (member_path src.types v.type ns)) (sym same) (within v.type ns))
+  path_part i ns (Some v) e = member_part i v (member_path src.types v.type ns) e (within v.type ns)
 
-  -- a name that is no variable's names no part
-  other_part : (n : Option ℕ) (b : Option Block) (k : Option ℕ) (t : Bool) (ns : List (List ℕ)) → IsPart (declared (program_of src)) (other_name n b k t ns)
-  other_part n b k t (m ∷ ms) = tt
-  other_part (Some n) b k t [] = tt
-  other_part None (Some b) (Some k) t [] = tt
-  other_part None (Some b) None true [] = tt
-  other_part None (Some b) None false [] = tt
-  other_part None None k true [] = tt
-  other_part None None k false [] = tt
+  variable_part : (o : Option ℕ) (ns : List (List ℕ)) → IsPart (declared (program_of src)) (a_variable src o ns)
+  variable_part None ns = tt
+  variable_part (Some i) ns = path_part i ns (slice_get src.vars i) refl
+
+  -- a block is no part
+  block_part : (o : Option (ℕ × Bool)) → IsPart (declared (program_of src)) (a_block o)
+  block_part None = tt
+  block_part (Some b) = tt
 
   -- whatever an operand stands for, it is no part that isn't there
-  variable_part : (line : ℕ) (o : Option ℕ) (name : List ℕ) (ns : List (List ℕ)) → IsPart (declared (program_of src)) (by_variable src line o name ns)
-  variable_part line (Some i) name ns = path_part i ns (slice_get src.vars i) refl
-  variable_part line None name ns =
-      let k = block_named src name in
-      other_part (number_named src line name) (option_and_then (block_at src) k) k (is_struct_at src line name) ns
+  sort_part : (line : ℕ) (o : Option NameSort) (name : List ℕ) (ns : List (List ℕ)) → IsPart (declared (program_of src)) (by_sort src line o name ns)
+  sort_part line o name ns =
+      name_has (λ _ d. IsPart (declared (program_of src)) d) (λ _. tt) tt (λ n. tt) src line name ns (variable_part (variable_named src name) ns) (block_part (block_by src name)) o
 
   term_part : (line : ℕ) (t : Term) → IsPart (declared (program_of src)) (denoted src line t)
   term_part line (Literal z) = tt
   term_part line (Quote s) = tt
   term_part line (Named []) = tt
-  term_part line (Named (n ∷ ns)) = variable_part line (variable_named src n) n ns
+  term_part line (Named (n ∷ ns)) = sort_part line (sort_named src n) n ns
 
   -- ---- operands
 

@@ -9,6 +9,7 @@ use Rattle.nxt_model.specs.Nbc.Tokens.{Token, lines_of, tokens_of}
 use Rattle.nxt_model.specs.Nbc.Forms.{Formed, formed}
 use Rattle.nxt_model.specs.Nbc.NbcRules.{TextFault, Broken, Lex, TooMany, tells}
 use Rattle.nxt_model.specs.Nbc.Text.{Source, Variable, program_of, program_var, source_of}
+use Rattle.nxt_model.specs.Nbc.Types.{Struct, shape_in}
 use Rattle.nxt_model.specs.TextProgram as program
 use Rattle.nxt_model.specs.TextProgram.{Text, shape_by, struct_shapes, text_of}
 use Rattle.nxt_nbc_lines.specs.Firsts.{Ascends}
@@ -19,13 +20,13 @@ use Rattle.nxt_asm_parts.specs.Sound.{AreNamedIn, AreShortIn, IsSound}
 use Rattle.nxt_asm_laws.proofs.Laws.Lists.{Each, all_each, each_alike}
 use Rattle.nxt_asm_laws.proofs.Laws.Forms.{LineFormed}
 use Rattle.nxt_asm_laws.proofs.Laws.Lines.{blocks_formed, each_formed}
-use Rattle.nxt_asm_laws.proofs.Laws.Starts.{Holds, start_has}
+use Rattle.nxt_asm_laws.proofs.Laws.Starts.{start_has}
 use Rattle.nxt_asm_laws.proofs.Laws.Named.{blocks_named}
 use Rattle.nxt_asm_laws.proofs.Laws.Short.{blocks_short}
 use Rattle.nxt_asm_laws.proofs.Laws.Blocks.{blocks_codable}
 use Rattle.nxt_asm_laws.proofs.Laws.Dependents.{blocks_lower, length-program_of}
 use Rattle.nxt_asm_laws.proofs.Laws.Kept.{lines_kept}
-use Rattle.nxt_asm_laws.proofs.Laws.Source.{parts_within, variables_hold, variables_typed}
+use Rattle.nxt_asm_laws.proofs.Laws.Source.{VariableHolds, parts_within, variables_hold}
 
 -- ---- variables
 
@@ -33,15 +34,15 @@ abbrev var_seen : NbcProgram → NbcVar → program.Variable
 var_seen p v = record { shape = shape_by (struct_shapes p.structs) v.shape; start = v.start }
 
 -- each start has the form of its type
-var_fits : (p : NbcProgram) (v : NbcVar) (w : Variable) → var_seen p v ≡ program_var w → Holds w.shape w.given → StartFits v.shape v.start
-var_fits p v w same h =
-    subst (StartFits v.shape) (sym (ap (λ x. x.start) same)) (start_has p.structs v.shape w.shape w.given (ap (λ x. x.shape) same) h)
+var_fits : (p : NbcProgram) (types : List Struct) (v : NbcVar) (w : Variable) → var_seen p v ≡ program_var types w → VariableHolds types w → StartFits v.shape v.start
+var_fits p types v w same h =
+    subst (StartFits v.shape) (sym (ap (λ x. x.start) same)) (start_has p.structs v.shape (shape_in types w.type) w.given (ap (λ x. x.shape) same) h)
 
-vars_fit : (p : NbcProgram) (ws : List Variable) → map (var_seen p) p.vars ≡ map program_var ws → Each (λ (w : Variable). Holds w.shape w.given) ws
+vars_fit : (p : NbcProgram) (types : List Struct) (ws : List Variable) → map (var_seen p) p.vars ≡ map (program_var types) ws → Each (VariableHolds types) ws
     → All (λ v. StartFits v.shape v.start) p.vars
-vars_fit p ws same hold =
+vars_fit p types ws same hold =
     let fits = λ (v : NbcVar). StartFits v.shape v.start in
-    all_each fits p.vars (each_alike (var_seen p) program_var (λ (w : Variable). Holds w.shape w.given) fits (var_fits p) p.vars ws same hold)
+    all_each fits p.vars (each_alike (var_seen p) (program_var types) (VariableHolds types) fits (var_fits p types) p.vars ws same hold)
 
 -- ---- programs
 
@@ -55,8 +56,8 @@ sound_by fd p told up whole e =
     let kept = lines_kept fd told in
     let few : length src.blocks ≤ 255 = ltb-false 255 (length src.blocks) (told (TooMany 0)) in
     record {
-      starts = vars_fit p src.vars (ap (λ (x : Text). x.vars) e) (variables_hold fs kept up whole);
-      named = subst (λ (x : Text). All (AreNamedIn x) x.blocks) (sym e) (all_each (AreNamedIn spelled) spelled.blocks (blocks_named src (parts_within fs kept up) (variables_typed fs kept up)));
+      starts = vars_fit p src.types src.vars (ap (λ (x : Text). x.vars) e) (variables_hold fs kept whole);
+      named = subst (λ (x : Text). All (AreNamedIn x) x.blocks) (sym e) (all_each (AreNamedIn spelled) spelled.blocks (blocks_named src (parts_within fs)));
       short = subst (λ (x : Text). All AreShortIn x.blocks) (sym e) (all_each AreShortIn spelled.blocks (blocks_short src few));
       codable = subst (λ (x : Text). All IsCodableBlock x.blocks) (sym e) (all_each IsCodableBlock spelled.blocks (blocks_codable src (blocks_formed fs whole)));
       dependents = subst (λ (x : Text). All (λ b. length b.dependents < 256) x.blocks) (sym e) (all_each _ spelled.blocks (blocks_lower src few));

@@ -1,6 +1,6 @@
 -- Immediates and numbers of blocks have as many bits as their types.
 use Rattle.std.proofs.Common.{◌≡◌, ℕ, ◌+◌, ◌%◌, ◌<◌, ◌≤◌, Bool, true, false, List, [], ◌∷◌, length, pos, Option, Some, None, refl, arith}
-use Rattle.std.specs.Prelude.{if◌then◌else◌, ℤ, negsuc, ⊤, nat_abs, option_and_then, slice_get, zip}
+use Rattle.std.specs.Prelude.{if◌then◌else◌, ℤ, negsuc, ⊤, nat_abs, option_and_then, option_map, slice_get, zip}
 use Rattle.std.proofs.lemmas.Bool.Decides.{nat_tests}
 use Rattle.nxt_types.specs.Arithmetic.{cut}
 use Rattle.nxt_types.specs.Opcodes.{classes}
@@ -13,10 +13,11 @@ use Rattle.nxt_model.specs.declared.nbc.NbcArg.TheVariants as args
 use Rattle.nxt_model.specs.declared.nbc.NbcStatement.{NbcStatement}
 use Rattle.nxt_model.specs.Nbc.Forms as forms
 use Rattle.nxt_model.specs.Nbc.Forms.{Form, Term, Named, Literal, Quote, TypeName}
-use Rattle.nxt_model.specs.Nbc.Text.{Source, Variable, Block, Denoted, ANumber, ABlock, LabelAt, arg_of, args_of, block_at, block_named, by_variable, denoted, denoted_arg, dependents_of, ending, is_left_out, is_struct_at, is_word, label_arg, labels_from, member_of, named_block, number_arg, number_named, numbered, ordered, other_name, path_in, program_block, program_of, returning, statement, statements_in, variable_named}
+use Rattle.nxt_model.specs.Nbc.Text.{Source, Variable, Block, Denoted, ANumber, ABlock, LabelAt, a_block, a_variable, arg_of, args_of, block_at, block_by, block_named, block_place, by_sort, denoted, denoted_arg, dependents_of, ending, is_left_out, is_word, label_arg, labels_from, member_of, named_block, number_arg, numbered, ordered, path_in, program_block, program_of, returning, sort_named, statement, statements_in, variable_named, NameSort}
 use Rattle.nxt_model.specs.Nbc.Types.{Found, member_path}
 use Rattle.nxt_asm_parts.specs.Sound.{AreShort, AreShortIn, IsShort}
 use Rattle.nxt_asm_laws.proofs.Laws.Lists.{Each, all_each, each_all, each_flat, each_map, each_weaker}
+use Rattle.nxt_asm_laws.proofs.Laws.Denoted.{name_has}
 use Rattle.nxt_asm_laws.proofs.Laws.Dependents.{length-ordered, named_below, term_below}
 
 -- ---- numbers
@@ -68,27 +69,29 @@ module _ (src : Source) (few : length src.blocks ≤ 255) where
   block_byte : (k : ℕ) → k < length (ordered src) → k < 256
   block_byte k lt = omega (arith, lt, few, length-ordered src)
 
-  other_byte : (n : Option ℕ) (b : Option Block) (k : Option ℕ) (t : Bool) (ns : List (List ℕ)) → ((i : ℕ) → k ≡ Some i → i < length (ordered src))
-      → IsByte (other_name n b k t ns)
-  other_byte n b k t (m ∷ ms) below = tt
-  other_byte (Some n) b k t [] below = tt
-  other_byte None (Some b) (Some k) t [] below = block_byte k (below k refl)
-  other_byte None (Some b) None true [] below = tt
-  other_byte None (Some b) None false [] below = tt
-  other_byte None None k true [] below = tt
-  other_byte None None k false [] below = tt
+  variable_byte : (o : Option ℕ) (ns : List (List ℕ)) → IsByte (a_variable src o ns)
+  variable_byte None ns = tt
+  variable_byte (Some i) ns = path_byte src i ns (slice_get src.vars i)
 
-  variable_byte : (line : ℕ) (o : Option ℕ) (name : List ℕ) (ns : List (List ℕ)) → IsByte (by_variable src line o name ns)
-  variable_byte line (Some i) name ns = path_byte src i ns (slice_get src.vars i)
-  variable_byte line None name ns =
-      let k = block_named src name in
-      other_byte (number_named src line name) (option_and_then (block_at src) k) k (is_struct_at src line name) ns (named_below src name)
+  named_byte : (name : List ℕ) → IsByte (a_block (block_by src name))
+  named_byte name = by (block_named src name) (named_below src name)
+    where
+      there : (k : ℕ) (o : Option Block) → k < 256 → IsByte (a_block (option_map (block_place k) o))
+      there k None lt = tt
+      there k (Some b) lt = lt
+
+      by : (o : Option ℕ) → ((i : ℕ) → o ≡ Some i → i < length (ordered src)) → IsByte (a_block (option_and_then (λ k. option_map (block_place k) (block_at src k)) o))
+      by None below = tt
+      by (Some k) below = there k (block_at src k) (block_byte k (below k refl))
+
+  sort_byte : (line : ℕ) (o : Option NameSort) (name : List ℕ) (ns : List (List ℕ)) → IsByte (by_sort src line o name ns)
+  sort_byte line o name ns = name_has (λ _ d. IsByte d) (λ _. tt) tt (λ n. tt) src line name ns (variable_byte (variable_named src name) ns) (named_byte name) o
 
   term_byte : (line : ℕ) (t : Term) → IsByte (denoted src line t)
   term_byte line (Literal z) = tt
   term_byte line (Quote s) = tt
   term_byte line (Named []) = tt
-  term_byte line (Named (n ∷ ns)) = variable_byte line (variable_named src n) n ns
+  term_byte line (Named (n ∷ ns)) = sort_byte line (sort_named src n) n ns
 
   -- ---- statements
 

@@ -1,6 +1,6 @@
 -- Starts that have the forms of their types.
-use Rattle.std.proofs.Common.{◌≡◌, ℕ, zero, suc, Bool, true, false, ◌||◌, List, [], ◌∷◌, ◌++◌, codes, bytes_eq, Some, refl, sym, ap, subst, ◌∙◌}
-use Rattle.std.specs.Prelude.{ℤ, ⊤, slice_index_or}
+use Rattle.std.proofs.Common.{◌≡◌, ℕ, zero, suc, Bool, true, false, ◌||◌, List, [], ◌∷◌, ◌++◌, codes, bytes_eq, position, Some, refl, sym, ap, subst, ◌∙◌}
+use Rattle.std.specs.Prelude.{ℤ, ⊤, slice_index_or, unwrap_or}
 use Rattle.std.proofs.lemmas.Bool.{and_parts, false≢true}
 use Rattle.std.proofs.lemmas.Slice.Eq.{bytes_eq-Decides}
 use Rattle.nxt_types.specs.Shapes.{Shape, Void, Number, Array, Cluster, Mutex, leaf_bytes}
@@ -14,8 +14,8 @@ use Rattle.nxt_model.specs.Nbc.Forms as forms
 use Rattle.nxt_model.specs.Nbc.Forms.{Given, TypeName, is_byte_name}
 use Rattle.nxt_model.specs.Nbc.NbcRules.{fit_elements, fits_shape, start_fits}
 use Rattle.nxt_model.specs.Nbc.Text.{start_of}
-use Rattle.nxt_model.specs.Nbc.Types.{Struct, arrays_of, one_of, or_number, plain_type, shape_of, struct_named}
-use Rattle.nxt_model.specs.TextProgram.{base_shape, shape_by, shapes_from, struct_shape, struct_shapes}
+use Rattle.nxt_model.specs.Nbc.Types.{Struct, is_before, one_of, plain_type, shape_at, type_shapes}
+use Rattle.nxt_model.specs.TextProgram.{arrays_of, base_shape, shape_by, shapes_from, struct_shape, struct_shapes}
 use Rattle.nxt_asm_parts.specs.Defaults.{IsNumbers, StartFits}
 use Rattle.nxt_asm_laws.proofs.Laws.Lists.{Each, each_push}
 use Rattle.nxt_asm_laws.proofs.Laws.Forms.{StartsAt}
@@ -116,28 +116,29 @@ many_fit (Cluster ss) z zs e = absurd (false≢true e)
 many_fit Mutex z zs e = absurd (false≢true e)
 
 -- the names of bytes
-byte_type : (n : List ℕ) → is_byte_name n ≡ true → plain_type n ≡ Some (Number Ubyte)
+byte_type : (n : List ℕ) → is_byte_name n ≡ true → plain_type n ≡ Some (bases.Number Ubyte)
 byte_type n e =
     by (bytes_eq n (codes "byte")) (bytes_eq n (codes "ubyte")) (bytes_eq n (codes "db")) refl refl refl e
   where
     by : (a b c : Bool) → bytes_eq n (codes "byte") ≡ a → bytes_eq n (codes "ubyte") ≡ b → bytes_eq n (codes "db") ≡ c → (a || b || c) ≡ true
-        → plain_type n ≡ Some (Number Ubyte)
+        → plain_type n ≡ Some (bases.Number Ubyte)
     by true b c one two three e = ap plain_type ((bytes_eq-Decides n (codes "byte")).0 one)
     by false true c one two three e = ap plain_type ((bytes_eq-Decides n (codes "ubyte")).0 two)
     by false false true one two three e = ap plain_type ((bytes_eq-Decides n (codes "db")).0 three)
     by false false false one two three e = absurd (false≢true e)
 
 -- a list of bytes by any of them
-bytes_shape : (types : List Struct) (t : TypeName) → t.arrays ≡ 1 → is_byte_name t.name ≡ true → shape_of types t ≡ Array 1 (Number Ubyte)
-bytes_shape types t single e =
-    ap (λ n. arrays_of n (or_number (one_of (plain_type t.name) (struct_named types t.name)))) single
-    ∙ ap (λ p. arrays_of 1 (or_number (one_of p (struct_named types t.name)))) (byte_type t.name e)
+bytes_shape : (types : List Struct) (line : ℕ) (t : TypeName) → t.arrays ≡ 1 → is_byte_name t.name ≡ true → shape_at types line t ≡ Array 1 (Number Ubyte)
+bytes_shape types line t single e =
+    let at = position (is_before line t.name) types in
+    ap (λ n. arrays_of n (base_shape (type_shapes types) (unwrap_or (one_of (plain_type t.name) at) (bases.Number Ubyte)))) single
+    ∙ ap (λ p. arrays_of 1 (base_shape (type_shapes types) (unwrap_or (one_of p at) (bases.Number Ubyte)))) (byte_type t.name e)
 
 -- a start that is in range stands at a shape that holds it, and a text at bytes
-pub given_holds : (types : List Struct) (t : TypeName) (g : Given) → StartsAt t.arrays g → start_fits (shape_of types t) g ≡ true
-    → ((bytes : List ℕ) → g ≡ forms.Bytes bytes → is_byte_name t.name ≡ true) → Holds (shape_of types t) g
-given_holds types t forms.Nothing at fits texts = tt
-given_holds types t (forms.One z) at fits texts = one_fits (shape_of types t) z fits
-given_holds types t (forms.Many []) at fits texts = absurd at
-given_holds types t (forms.Many (z ∷ zs)) at fits texts = many_fit (shape_of types t) z zs fits
-given_holds types t (forms.Bytes bytes) at fits texts = (1, bytes_shape types t at (texts bytes refl))
+pub given_holds : (types : List Struct) (line : ℕ) (t : TypeName) (g : Given) → StartsAt t.arrays g → start_fits (shape_at types line t) g ≡ true
+    → ((bytes : List ℕ) → g ≡ forms.Bytes bytes → is_byte_name t.name ≡ true) → Holds (shape_at types line t) g
+given_holds types line t forms.Nothing at fits texts = tt
+given_holds types line t (forms.One z) at fits texts = one_fits (shape_at types line t) z fits
+given_holds types line t (forms.Many []) at fits texts = absurd at
+given_holds types line t (forms.Many (z ∷ zs)) at fits texts = many_fit (shape_at types line t) z zs fits
+given_holds types line t (forms.Bytes bytes) at fits texts = (1, bytes_shape types line t at (texts bytes refl))

@@ -1,153 +1,139 @@
--- The structs of a text: their lines rise, their names are free, and their members have their shapes among all of them.
-use Rattle.std.proofs.Common.{◌≡◌, ℕ, ◌<◌, ◌≤◌, Bool, true, false, cond, List, [], ◌∷◌, ◌++◌, nat_lt, bytes_eq, Option, Some, None, refl, sym, ap, subst, ◌∙◌, arith}
-use Rattle.std.specs.Prelude.{⊤}
-use Rattle.std.specs.Option.{option_or}
-use Rattle.std.proofs.lemmas.Bool.{le-ltb, ltb-false}
-use Rattle.std.proofs.lemmas.List.{append-nil, append_assoc}
-use Rattle.std.proofs.lemmas.List.Elements.{filter-append}
-use Rattle.std.proofs.lemmas.List.Folds.{find-append}
-use Rattle.std.proofs.lemmas.Option.{none-some}
-use Rattle.std.proofs.lemmas.Slice.Eq.{bytes_eq-Decides}
-use Rattle.nxt_model.specs.Nbc.Forms.{Form, OpenStruct, CloseStruct, Member, TypeName}
-use Rattle.nxt_model.specs.Nbc.Types.{Struct, StructMember, is_type, shape_of, struct_named, types_at, types_from, with_member}
-use Rattle.nxt_nbc_lines.specs.Firsts.{Ascends}
-use Rattle.nxt_asm_laws.proofs.Laws.Lists.{Each, each_push}
-use Rattle.nxt_asm_laws.proofs.Laws.Paths.{HasShape, HaveShapes, IsSeen, shape_seen}
+-- The structs of a text: their members have types of structs before them.
+use Rattle.std.proofs.Common.{◌≡◌, ℕ, suc, ◌+◌, ◌<◌, ◌≤◌, Bool, true, false, cond, nat_lt, List, [], ◌∷◌, ◌++◌, map, length, position, Option, Some, None, refl, subst, arith, rules, length-append}
+use Rattle.std.specs.Prelude.{⊤, bytes_eq, find, option_map, unwrap_or}
+use Rattle.std.specs.List.{position_or_len}
+use Rattle.std.proofs.lemmas.Bool.Decides.{nat_tests}
+use Rattle.nxt_types.specs.declared.kind.Kind.TheVariants.{Ubyte}
+use Rattle.nxt_model.specs.Nbc.Forms.{Form, Include, OpenStruct, CloseStruct, Member, TypeName}
+use Rattle.nxt_model.specs.Nbc.Header.{header_at, header_structs, member_behind, struct_behind}
+use Rattle.nxt_model.specs.Nbc.Structs.{Types, add_header, no_types, types_from, types_of, with_header, with_member, with_struct}
+use Rattle.nxt_model.specs.Nbc.Types.{Struct, StructMember, is_before, one_of, plain_type, plain_types, type_at}
+use Rattle.nxt_model.specs.declared.nbc.NbcBase.{NbcBase}
+use Rattle.nxt_model.specs.declared.nbc.NbcBase.TheVariants as bases
+use Rattle.nxt_asm_laws.proofs.Laws.Lists.{Each, each_push, each_weaker}
 
--- ---- structs by their lines and names
+-- a type of one of so many structs, or of none
+abbrev pub IsBaseAmong : ℕ → NbcBase → Type 0
+IsBaseAmong n (bases.Struct i) = i < n
+IsBaseAmong n b = ⊤
 
--- structs behind a line, none before the one in front of it, with names of which something holds
-abbrev pub Rise : (List ℕ → Type 0) → ℕ → List Struct → Type 0
-Rise P n [] = ⊤
-Rise P n (s ∷ ss) = (n ≤ s.line) × P s.name × Rise P s.line ss
+abbrev pub IsAmong : ℕ → StructMember → Type 0
+IsAmong n m = IsBaseAmong n m.type.base
 
-rise_above : (P : List ℕ → Type 0) (m n : ℕ) (ss : List Struct) → m ≤ n → Rise P n ss → Rise P m ss
-rise_above P m n [] le up = tt
-rise_above P m n (s ∷ ss) le up = (omega (arith, le, up.0), up.1, up.2)
+-- behind so many structs each has members of types before it
+abbrev pub AreOrdered : ℕ → List Struct → Type 0
+AreOrdered n [] = ⊤
+AreOrdered n (s ∷ ss) = Each (IsAmong n) s.members × AreOrdered (n + 1) ss
 
--- none of them stands before a line that the first isn't before
-none_before : (P : List ℕ → Type 0) (l n : ℕ) (ss : List Struct) → l ≤ n → Rise P n ss → types_at ss l ≡ []
-none_before P l n [] le up = refl
-none_before P l n (s ∷ ss) le up =
-    let later : l ≤ s.line = omega (arith, le, up.0) in
-    ap (λ c. cond c (s ∷ types_at ss l) (types_at ss l)) (le-ltb s.line l later) ∙ none_before P l s.line ss later up.2
+among_more : (n k : ℕ) (b : NbcBase) → n ≤ k → IsBaseAmong n b → IsBaseAmong k b
+among_more n k (bases.Number x) le h = tt
+among_more n k bases.Mutex le h = tt
+among_more n k (bases.Struct i) le h = omega (arith, le, h)
 
--- one that a name stands for before a line is the first of all, and something holds of the name
-seen_before : (P : List ℕ → Type 0) (l n : ℕ) (ss : List Struct) (name : List ℕ) (s : Struct) → Rise P n ss → struct_named (types_at ss l) name ≡ Some s
-    → (struct_named ss name ≡ Some s) × P name
-seen_before P l n [] name s up e = absurd (none-some s e)
-seen_before P l n (x ∷ ss) name s up e = by (nat_lt x.line l) (bytes_eq x.name name) refl refl e (seen_before P l x.line ss name s up.2)
+members_more : (n k : ℕ) (ms : List StructMember) → n ≤ k → Each (IsAmong n) ms → Each (IsAmong k) ms
+members_more n k ms le h = each_weaker (IsAmong n) (IsAmong k) ms (λ m a. among_more n k m.type.base le a) h
+
+ordered_append : (n : ℕ) (a b : List Struct) → AreOrdered n a → AreOrdered (n + length a) b → AreOrdered n (a ++ b)
+ordered_append n [] b h k = let e : n + 0 ≡ n = omega arith in subst (λ m. AreOrdered m b) e k
+ordered_append n (s ∷ a) b h k =
+    let e : n + suc (length a) ≡ (n + 1) + length a = omega arith in
+    (h.0, ordered_append (n + 1) a b h.1 (subst (λ m. AreOrdered m b) e k))
+
+-- ---- the header's
+
+base_behind : (first n : ℕ) (m : StructMember) → IsAmong n m → IsAmong (first + n) (member_behind first m)
+base_behind first n m h = by m.type.base h
   where
-    by : (c d : Bool) → nat_lt x.line l ≡ c → bytes_eq x.name name ≡ d → struct_named (cond c (x ∷ types_at ss l) (types_at ss l)) name ≡ Some s
-        → (struct_named (types_at ss l) name ≡ Some s → (struct_named ss name ≡ Some s) × P name)
-        → (cond d (Some x) (struct_named ss name) ≡ Some s) × P name
-    by true true before same e more =
-        (sym (ap (λ b. cond b (Some x) (struct_named (types_at ss l) name)) same) ∙ e, subst P ((bytes_eq-Decides x.name name).0 same) up.1)
-    by true false before same e more = more (sym (ap (λ b. cond b (Some x) (struct_named (types_at ss l) name)) same) ∙ e)
-    by false d before same e more =
-        absurd (none-some s (sym (ap (λ ts. struct_named ts name) (none_before P l x.line ss (ltb-false x.line l before) up.2)) ∙ e))
+    by : (b : NbcBase) → IsBaseAmong n b → IsBaseAmong (first + n) (Rattle.nxt_model.specs.Nbc.Header.base_behind first b)
+    by (bases.Number k) h = tt
+    by bases.Mutex h = tt
+    by (bases.Struct i) h = omega (arith, h)
 
--- ---- the structs of forms
+members_behind : (first n : ℕ) (ms : List StructMember) → Each (IsAmong n) ms → Each (IsAmong (first + n)) (map (member_behind first) ms)
+members_behind first n [] h = tt
+members_behind first n (m ∷ ms) h = (base_behind first n m h.0, members_behind first n ms h.1)
 
--- the name that a line opens a struct with
-abbrev pub Opens : (List ℕ → Type 0) → ℕ × Form → Type 0
-Opens P (l, OpenStruct n) = P n
-Opens P (l, f) = ⊤
+structs_behind : (first line n : ℕ) (ss : List Struct) → AreOrdered n ss → AreOrdered (first + n) (map (struct_behind first line) ss)
+structs_behind first line n [] h = tt
+structs_behind first line n (s ∷ ss) h =
+    let e : first + (n + 1) ≡ (first + n) + 1 = omega arith in
+    (members_behind first n s.members h.0, subst (λ m. AreOrdered m (map (struct_behind first line) ss)) e (structs_behind first line (n + 1) ss h.1))
 
--- the structs that are declared behind others
-abbrev pub Behind : (List ℕ → Type 0) → ℕ → List Struct → List Struct → Type 0
-Behind P n types all = (rest : List Struct) × (all ≡ types ++ rest) × Rise P n rest
+header_ordered : AreOrdered 0 header_structs
+header_ordered = search rules
 
-lower : (P : List ℕ → Type 0) (m n : ℕ) (types all : List Struct) → m < n → Behind P n types all → Behind P m types all
-lower P m n types all lt b = (b.0, b.1, rise_above P m n b.0 (omega (arith, lt)) b.2)
+added_ordered : (o : Option ℕ) (t : Types) (line : ℕ) → AreOrdered 0 t.structs → AreOrdered 0 (add_header o t line).structs
+added_ordered None t line h =
+    let n = length t.structs in
+    let e : n + 0 ≡ 0 + n = omega arith in
+    ordered_append 0 t.structs (header_at n line) h (subst (λ m. AreOrdered m (header_at n line)) e (structs_behind n line 0 header_structs header_ordered))
+added_ordered (Some first) t line h = h
 
-module _ (P : List ℕ → Type 0) (unnamed : P []) where
-  pub structs_behind : (types : List Struct) (name : List ℕ) (ms : List StructMember) (n : ℕ) (fs : List (ℕ × Form)) → Ascends n fs → P name → Each (Opens P) fs
-      → Behind P n types (types_from types name ms fs)
-  structs_behind types name ms n [] up p opens = ([], sym (append-nil types), tt)
-  structs_behind types name ms n ((l, OpenStruct m) ∷ fs) up p opens =
-      lower P n l types (types_from types m [] fs) up.0 (structs_behind types m [] l fs up.1 opens.0 opens.1)
-  structs_behind types name ms n ((l, Member m t) ∷ fs) up p opens =
-      lower P n l types (types_from types name (with_member types ms l m t) fs) up.0 (structs_behind types name (with_member types ms l m t) l fs up.1 p opens.1)
-  structs_behind types name ms n ((l, CloseStruct) ∷ fs) up p opens =
-      let s : Struct = record { name = name; members = ms; line = l } in
-      let b = structs_behind (types ++ s ∷ []) [] [] l fs up.1 unnamed opens.1 in
-      let lt = up.0 in
-      (s ∷ b.0, b.1 ∙ append_assoc types (s ∷ []) b.0, (omega (arith, lt), p, b.2))
-  structs_behind types name ms n ((l, f) ∷ fs) up p opens =
-      lower P n l types (types_from types name ms fs) up.0 (structs_behind types name ms l fs up.1 p opens.1)
+added_length : (o : Option ℕ) (t : Types) (line : ℕ) → length t.structs ≤ length (add_header o t line).structs
+added_length None t line = omega (arith, length-append t.structs (header_at (length t.structs) line))
+added_length (Some first) t line = omega arith
 
--- ---- members
+-- ---- names of types
 
--- a member's type is known where it stands
-abbrev pub Knows : List Struct → ℕ × Form → Type 0
-Knows all (l, Member n t) = is_type (types_at all l) t.name ≡ true
-Knows all (l, f) = ⊤
-
--- before a line stands what stands there before other structs behind it
-still_before : (P : List ℕ → Type 0) (l : ℕ) (types all : List Struct) → Behind P l types all → types_at all l ≡ types_at types l
-still_before P l types all b =
-    ap (λ ts. types_at ts l) b.1
-    ∙ filter-append (λ (s : Struct). nat_lt s.line l) types b.0
-    ∙ ap (λ ts. types_at types l ++ ts) (none_before P l l b.0 (omega arith) b.2)
-    ∙ append-nil (types_at types l)
-
-module _ (P : List ℕ → Type 0) (unnamed : P []) (all : List Struct) (seen : (l : ℕ) → IsSeen (types_at all l) all) where
-  member_has : (types : List Struct) (l : ℕ) (t : TypeName) → Behind P l types all → is_type (types_at all l) t.name ≡ true
-      → shape_of (types_at types l) t ≡ shape_of all t
-  member_has types l t b known = ap (λ ts. shape_of ts t) (sym (still_before P l types all b)) ∙ shape_seen (types_at all l) all t (seen l) known
-
-  pub members_have : (types : List Struct) (name : List ℕ) (ms : List StructMember) (n : ℕ) (fs : List (ℕ × Form)) → Ascends n fs → P name → Each (Opens P) fs
-      → all ≡ types_from types name ms fs → Each (Knows all) fs → HaveShapes all types → Each (HasShape all) ms → HaveShapes all all
-  members_have types name ms n [] up p opens is known have own = subst (HaveShapes all) (sym is) have
-  members_have types name ms n ((l, OpenStruct m) ∷ fs) up p opens is known have own = members_have types m [] l fs up.1 opens.0 opens.1 is known.1 have tt
-  members_have types name ms n ((l, Member m t) ∷ fs) up p opens is known have own =
-      let more = with_member types ms l m t in
-      let b = subst (Behind P l types) (sym is) (structs_behind P unnamed types name more l fs up.1 p opens.1) in
-      members_have types name more l fs up.1 p opens.1 is known.1 have (each_push (HasShape all) ms _ own (member_has types l t b known.0))
-  members_have types name ms n ((l, CloseStruct) ∷ fs) up p opens is known have own =
-      members_have (types ++ record { name = name; members = ms; line = l } ∷ []) [] [] l fs up.1 unnamed opens.1 is known.1
-      (each_push (λ s. Each (HasShape all) s.members) types _ have own) tt
-  members_have types name ms n ((l, f) ∷ fs) up p opens is known have own = members_have types name ms l fs up.1 p opens.1 is known.1 have own
-
--- ---- views
-
-abbrev pub Stands : ℕ → Struct → Type 0
-Stands line s = s.line ≡ line
-
--- structs of one line all stand before another, or none does
-all_before : (line l : ℕ) (hs : List Struct) → Each (Stands line) hs → types_at hs l ≡ cond (nat_lt line l) hs []
-all_before line l [] h = by (nat_lt line l)
+-- a position is one in the list
+pub position_inside : {X : Type 0} (p : X → Bool) (xs : List X) (i : ℕ) → position p xs ≡ Some i → i < length xs
+position_inside p xs i e = by (nat_lt (position_or_len p xs) (length xs)) refl e
   where
-    by : (c : Bool) → ◌≡◌ {A = List Struct} [] (cond c [] [])
-    by true = refl
-    by false = refl
-all_before line l (s ∷ hs) h =
-    ap (λ n. cond (nat_lt n l) (s ∷ types_at hs l) (types_at hs l)) h.0
-    ∙ ap (λ ts. cond (nat_lt line l) (s ∷ ts) ts) (all_before line l hs h.1)
-    ∙ by (nat_lt line l)
-  where
-    by : (c : Bool) → cond c (s ∷ cond c hs []) (cond c hs []) ≡ cond c (s ∷ hs) []
-    by true = refl
-    by false = refl
+    by : (b : Bool) → nat_lt (position_or_len p xs) (length xs) ≡ b → cond b (Some (position_or_len p xs)) None ≡ Some i → i < length xs
+    by true under e = let same : position_or_len p xs ≡ i = cc in grind (arith, nat_tests)
+    by false over e = let f : ⊥ = cc in absurd f
 
--- what a name stands for before a line it stands for among all, where the structs in front have other names than those behind them
-pub before_seen : (P : List ℕ → Type 0) (line : ℕ) (hs rest : List Struct) → Each (Stands line) hs → Rise P 0 rest
-    → ((name : List ℕ) → P name → struct_named hs name ≡ None) → (l : ℕ) → IsSeen (types_at (hs ++ rest) l) (hs ++ rest)
-before_seen P line hs rest one up free l name s e =
-    find-append test hs rest
-    ∙ by (nat_lt line l) (struct_named hs name) (struct_named (types_at rest l) name) refl
-    (seen_before P l 0 rest name s up)
-    (sym (ap (λ ts. option_or (struct_named ts name) (struct_named (types_at rest l) name)) (all_before line l hs one))
-    ∙ sym (find-append test (types_at hs l) (types_at rest l))
-    ∙ sym (ap (λ ts. struct_named ts name) (filter-append (λ (x : Struct). nat_lt x.line l) hs rest))
-    ∙ e)
-  where
-    test : Struct → Bool
-    test x = bytes_eq x.name name
+-- a plain type is no struct
+abbrev pub IsPlain : NbcBase → Type 0
+IsPlain (bases.Struct i) = ⊥
+IsPlain b = ⊤
 
-    by : (c : Bool) (o r : Option Struct) → struct_named hs name ≡ o → (r ≡ Some s → (struct_named rest name ≡ Some s) × P name)
-        → option_or (struct_named (cond c hs []) name) r ≡ Some s → option_or o (struct_named rest name) ≡ Some s
-    by true (Some x) r is more e = sym (ap (λ q. option_or q r) is) ∙ e
-    by true None r is more e = (more (sym (ap (λ q. option_or q r) is) ∙ e)).0
-    by false o r is more e = let m = more e in ap (λ q. option_or q (struct_named rest name)) (sym is ∙ free name m.1) ∙ m.0
+abbrev pub OfPlain : Option NbcBase → Type 0
+OfPlain None = ⊤
+OfPlain (Some b) = IsPlain b
+
+plain_found : (test : List ℕ × NbcBase → Bool) (xs : List (List ℕ × NbcBase)) → Each (λ p. IsPlain p.1) xs → OfPlain (option_map (λ p. p.1) (find test xs))
+plain_found test [] h = tt
+plain_found test (x ∷ xs) h = by (test x) (plain_found test xs h.1)
+  where
+    by : (b : Bool) → OfPlain (option_map (λ p. p.1) (find test xs)) → OfPlain (option_map (λ p. p.1) (cond b (Some x) (find test xs)))
+    by true more = h.0
+    by false more = more
+
+plains : Each (λ p. IsPlain p.1) plain_types
+plains = (tt, (tt, (tt, (tt, (tt, (tt, (tt, (tt, (tt, (tt, (tt, (tt, (tt, (tt, (tt, tt)))))))))))))))
+
+pub plain_is : (name : List ℕ) → OfPlain (plain_type name)
+plain_is name = plain_found (λ p. bytes_eq p.0 name) plain_types plains
+
+base_among : (n : ℕ) (p : Option NbcBase) (o : Option ℕ) → OfPlain p → ((i : ℕ) → o ≡ Some i → i < n) → IsBaseAmong n (unwrap_or (one_of p o) (bases.Number Ubyte))
+base_among n (Some (bases.Number k)) o plain under = tt
+base_among n (Some bases.Mutex) o plain under = tt
+base_among n (Some (bases.Struct i)) o plain under = absurd plain
+base_among n None None plain under = tt
+base_among n None (Some i) plain under = under i refl
+
+-- a type is that of a struct before its line, or of none
+pub type_among : (types : List Struct) (line : ℕ) (t : TypeName) → IsBaseAmong (length types) (type_at types line t).base
+type_among types line t =
+    base_among (length types) (plain_type t.name) (position (is_before line t.name) types) (plain_is t.name) (position_inside (is_before line t.name) types)
+
+-- ---- the structs of lines
+
+pub ordered_from : (t : Types) (name : List ℕ) (ms : List StructMember) (fs : List (ℕ × Form)) → AreOrdered 0 t.structs → Each (IsAmong (length t.structs)) ms
+    → AreOrdered 0 (types_from t name ms fs).structs
+ordered_from t name ms [] h own = h
+ordered_from t name ms ((l, Include) ∷ fs) h own =
+    ordered_from (with_header t l) name ms fs (added_ordered t.included t l h) (members_more (length t.structs) _ ms (added_length t.included t l) own)
+ordered_from t name ms ((l, OpenStruct n) ∷ fs) h own = ordered_from t n [] fs h tt
+ordered_from t name ms ((l, Member n of) ∷ fs) h own =
+    ordered_from t name (with_member t ms l n of) fs h (each_push (IsAmong (length t.structs)) ms _ own (type_among t.structs l of))
+ordered_from t name ms ((l, CloseStruct) ∷ fs) h own =
+    ordered_from (with_struct t name ms l) [] [] fs (ordered_append 0 t.structs _ h (subst (λ n. Each (IsAmong n) ms) (zero_more (length t.structs)) own, tt)) tt
+  where
+    zero_more : (n : ℕ) → n ≡ 0 + n
+    zero_more n = omega arith
+ordered_from t name ms ((l, f) ∷ fs) h own = ordered_from t name ms fs h own
+
+pub types_ordered : (fs : List (ℕ × Form)) → AreOrdered 0 (types_of fs).structs
+types_ordered fs = ordered_from no_types [] [] fs tt tt

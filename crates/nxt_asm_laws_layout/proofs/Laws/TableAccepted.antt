@@ -10,6 +10,7 @@ use Rattle.nxt_model.specs.Nbc.Tokens.{Token, lines_of, tokens_of}
 use Rattle.nxt_model.specs.Nbc.Forms.{formed}
 use Rattle.nxt_model.specs.Nbc.NbcRules as rules
 use Rattle.nxt_model.specs.Nbc.NbcRules.{TextFault, Lex, tells}
+use Rattle.nxt_model.specs.Nbc.Types.{shape_in}
 use Rattle.nxt_model.specs.Nbc.Text.{Source, Variable, program_of, program_var, source_of}
 use Rattle.nxt_model.specs.TextProgram as program
 use Rattle.nxt_model.specs.TextProgram.{Text, constants, returns, static_size, subroutines, text_of, text_shape, texts}
@@ -39,17 +40,17 @@ all_variables [] h = tt
 all_variables (s ∷ ss) h = (h.0, all_variables ss h.1)
 
 -- by the variables of a text
-shapes_of_source : (src : Source) → Each (λ (v : Variable). IsVariable v.shape) src.vars → Each IsVariable (all_shapes (program_of src))
+shapes_of_source : (src : Source) → Each (λ (v : Variable). IsVariable (shape_in src.types v.type)) src.vars → Each IsVariable (all_shapes (program_of src))
 shapes_of_source src h =
     let t : Text = program_of src in
-    let vars = map program_var src.vars in
+    let vars = map (program_var src.types) src.vars in
     let declared = map (λ (v : program.Variable). v.shape) vars in
     let numbers = map (λ z. Number Slong) (constants t) in
     let others = map (λ b. text_shape) (texts t) in
     each_join IsVariable (declared ++ returns t ++ numbers) others
     (each_join IsVariable (declared ++ returns t) numbers
     (each_join IsVariable declared (returns t)
-    (each_mapped IsVariable (λ (v : program.Variable). v.shape) vars (each_mapped (λ (v : program.Variable). IsVariable v.shape) program_var src.vars h))
+    (each_mapped IsVariable (λ (v : program.Variable). v.shape) vars (each_mapped (λ (v : program.Variable). IsVariable v.shape) (program_var src.types) src.vars h))
     (each_mapped IsVariable (λ b. Number Ubyte) (subroutines t.blocks) (each_from _ (λ b. (tt, omega arith)) (subroutines t.blocks))))
     (each_mapped IsVariable (λ z. Number Slong) (constants t) (each_from _ (λ z. (tt, omega arith)) (constants t))))
     (each_mapped IsVariable (λ b. text_shape) (texts t) (each_from _ (λ b. ((refl, tt), omega arith)) (texts t)))
@@ -76,7 +77,7 @@ variables text t parsed =
     let told = nothing_told text parsed.tokens.0 parsed.accepted parsed.tokens.1 in
     subst (λ (x : Text). AreVariables (members (all_shapes x))) (sym parsed.tokens.2)
     (all_variables (all_shapes (program_of (source_of fd.forms)))
-    (shapes_of_source (source_of fd.forms) (each_then (IsDeclared fd told) (λ (v : Variable). IsVariable v.shape) (λ v h. h.0) (source_of fd.forms).vars (declared_of text t parsed))))
+    (shapes_of_source (source_of fd.forms) (each_then (IsDeclared fd told) (λ (v : Variable). IsVariable (shape_in (source_of fd.forms).types v.type)) (λ v h. h.0) (source_of fd.forms).vars (declared_of text t parsed))))
 
 -- ---- room
 

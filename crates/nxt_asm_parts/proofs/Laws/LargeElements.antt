@@ -5,8 +5,7 @@ use Rattle.std.specs.Option.{option_or}
 use Rattle.std.proofs.lemmas.Bool.Decides.{nat_tests}
 use Rattle.std.proofs.lemmas.List.{map_more}
 use Rattle.nxt_types.specs.Shapes.{Shape, cluster_of, members, leaf_bytes}
-use Rattle.nxt_model.specs.Nbc.Types.{arrays_of}
-use Rattle.nxt_model.specs.TextProgram.{shape_by, struct_shapes}
+use Rattle.nxt_model.specs.TextProgram.{arrays_of, shape_by, struct_shapes}
 use Rattle.nxt_model.specs.declared.nbc.NbcStruct.{NbcStruct}
 use Rattle.nxt_model.specs.declared.nbc.NbcType.{NbcType}
 use Rattle.nxt_asm_parts.specs.Elements.{elements_in, elements_among, first_large, large_in, most_element}

@@ -11,8 +11,7 @@ use Rattle.nxt_model.specs.Means.Text.{ended}
 use Rattle.nxt_model.specs.Values.{Value, Num, ListOf, no_more, elements, items, list_of, lists_among, lists_in, values, zero_of, zeros_of}
 use Rattle.nxt_model.specs.Footprint.{list_bytes, member_bytes}
 use Rattle.nxt_model.specs.Assembled.{arrays_among, arrays_in}
-use Rattle.nxt_model.specs.Nbc.Types.{arrays_of}
-use Rattle.nxt_model.specs.TextProgram.{base_shape, shape_by, starts_as, text_shape, text_value}
+use Rattle.nxt_model.specs.TextProgram.{arrays_of, base_shape, shape_by, starts_as, text_shape, text_value}
 use Rattle.nxt_model.specs.declared.nbc.NbcBase.{NbcBase}
 use Rattle.nxt_model.specs.declared.nbc.NbcBase.TheVariants as bases
 use Rattle.nxt_model.specs.declared.nbc.NbcStart.{NbcStart}

@@ -1,11 +1,11 @@
 -- What the operands of a generated text stand for.
-use Rattle.std.proofs.Common.{◌≡◌, ℕ, zero, suc, ◌+◌, ◌<◌, true, List, [], ◌∷◌, map, Option, Some, None, option_and_then, refl, ap, ap₂, ◌∙◌, arith}
+use Rattle.std.proofs.Common.{◌≡◌, ℕ, zero, suc, ◌+◌, ◌<◌, true, List, [], ◌∷◌, map, Option, Some, None, refl, ap, ap₂, ◌∙◌, arith}
 use Rattle.std.specs.Prelude.{codes, if◌then◌else◌, nat_lt, pos}
 use Rattle.std.proofs.lemmas.Bool.Decides.{nat_tests}
 use Rattle.std.proofs.lemmas.Fmt.{decimal_digit}
 use Rattle.nxt_model.specs.Nbc.Forms.{Form, Named}
-use Rattle.nxt_model.specs.Nbc.Header.{constant_named}
-use Rattle.nxt_model.specs.Nbc.Text.{AVariable, ANumber, Denoted, Source, block_at, block_named, by_variable, denoted, is_struct_at, other_name, variable_named}
+use Rattle.nxt_model.specs.Nbc.Header.{constant_named, is_header_struct}
+use Rattle.nxt_model.specs.Nbc.Text.{AVariable, ANumber, Denoted, Missing, Source, by_sort, denoted, of_header, sort_named}
 use Rattle.nxt_gen_laws.specs.Head.{source_with}
 use Rattle.nxt_gen_laws.specs.Rows.{AreSmall, Flags, IsSmall, Numeral, Operand, Port, Power, Speed, TheList, TheSize, byte_list, meaning, operand_term}
 
@@ -31,12 +31,11 @@ module _ (items : List (ℕ × Form)) (line : ℕ) (behind : 1 < line) where
 
   -- ---- names of the header
 
-  number_known : (name : List ℕ) (n : ℕ) → variable_named src name ≡ None → constant_named name ≡ Some n → denoted src line (Named (name ∷ [])) ≡ ANumber (pos n)
+  number_known : (name : List ℕ) (n : ℕ) → sort_named src name ≡ None → constant_named name ≡ Some n → denoted src line (Named (name ∷ [])) ≡ ANumber (pos n)
   number_known name n other is =
-      let k : Option ℕ = block_named src name in
-      ap (λ v. by_variable src line v name []) other
-      ∙ ap (λ b. other_name (if b then constant_named name else None) (option_and_then (block_at src) k) k (is_struct_at src line name) []) ahead
-      ∙ ap (λ c. other_name c (option_and_then (block_at src) k) k (is_struct_at src line name) []) is
+      ap (λ s. by_sort src line s name []) other
+      ∙ ap (λ b. if b then of_header (constant_named name) (is_header_struct name) else Missing) ahead
+      ∙ ap (λ c. of_header c (is_header_struct name)) is
 
   -- ---- operands
 

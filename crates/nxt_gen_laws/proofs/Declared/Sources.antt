@@ -1,19 +1,24 @@
 -- What a generated text declares: nine variables and the thread main.
 use Rattle.std.proofs.Common.{◌≡◌, ℕ, suc, ◌+◌, List, [], ◌∷◌, Some, filter_map, flat_map, refl, ap, ◌∙◌}
 use Rattle.nxt_model.specs.Nbc.Forms.{Form}
-use Rattle.nxt_model.specs.Nbc.Header.{header_types}
+use Rattle.nxt_model.specs.Nbc.Header.{header_at}
+use Rattle.nxt_model.specs.Nbc.Structs.{Types, types_from, types_of}
 use Rattle.nxt_model.specs.Nbc.NbcRules.{member_spaces, shared_name}
-use Rattle.nxt_model.specs.Nbc.Text.{Block, Source, Variable, blocks_in, followed_by, items_of, labels_from, preceded_by, source_of, types_of, variable_of}
-use Rattle.nxt_model.specs.Nbc.Types.{Struct, StructMember, types_from}
-use Rattle.nxt_gen_laws.specs.Head.{head_forms, list_variable, main_block, size_variable, source_with}
+use Rattle.nxt_model.specs.Nbc.Text.{Block, NameSort, Source, Variable, blocks_in, declared_name, followed_by, items_of, labels_from, preceded_by, source_of, variable_of}
+use Rattle.nxt_model.specs.Nbc.Types.{Struct, StructMember}
+use Rattle.nxt_gen_laws.specs.Head.{head_forms, head_names, list_variable, main_block, size_variable, source_with}
 use Rattle.nxt_gen_laws.specs.Rows.{Row, row_form, row_forms}
 use Rattle.std.specs.Prelude.{codes}
 
 -- ---- statements declare nothing
 
-no_types : (types : List Struct) (name : List ℕ) (ms : List StructMember) (line : ℕ) (rs : List Row) → types_from types name ms (row_forms line rs) ≡ types
-no_types types name ms line [] = refl
-no_types types name ms line (r ∷ rs) = no_types types name ms (suc line) rs
+no_types : (t : Types) (name : List ℕ) (ms : List StructMember) (line : ℕ) (rs : List Row) → types_from t name ms (row_forms line rs) ≡ t
+no_types t name ms line [] = refl
+no_types t name ms line (r ∷ rs) = no_types t name ms (suc line) rs
+
+no_declared : (line : ℕ) (rs : List Row) → filter_map declared_name (row_forms line rs) ≡ []
+no_declared line [] = refl
+no_declared line (r ∷ rs) = no_declared (suc line) rs
 
 no_variables : (types : List Struct) (line : ℕ) (rs : List Row) → filter_map (variable_of types) (row_forms line rs) ≡ []
 no_variables types line [] = refl
@@ -57,21 +62,27 @@ with_variables vs =
     ∷ list_variable 7 (codes "a4") ∷ list_variable 8 (codes "a5") ∷ list_variable 9 (codes "a6") ∷ list_variable 10 (codes "a7")
     ∷ size_variable ∷ vs
 
-abbrev made : List Struct → List Variable → List Block → Source
-made types vs bs = record { included = Some 1; types = types; vars = with_variables vs; blocks = bs }
+abbrev made : Types → List Variable → List Block → List (List ℕ × NameSort) → Source
+made t vs bs ns = record { included = t.included; types = t.structs; vars = with_variables vs; blocks = bs; names = head_names ns }
+
+abbrev of_header : Types
+of_header = record { included = Some 1; structs = header_at 0 1 }
 
 of_head : (fs : List (ℕ × Form))
     → source_of (head_forms fs)
-    ≡ made (types_from (header_types 1) [] [] fs) (filter_map (variable_of (types_of (head_forms fs))) fs) (main_block (items_of fs) ∷ blocks_in fs)
+    ≡ made (types_from of_header [] [] fs) (filter_map (variable_of (types_of (head_forms fs)).structs) fs) (main_block (items_of fs) ∷ blocks_in fs) (filter_map declared_name fs)
 of_head fs = refl
 
 -- what a text of statements declares
 pub source_is : (rs : List Row) → source_of (head_forms (row_forms 14 rs)) ≡ source_with (row_forms 14 rs)
 source_is rs =
     let fs : List (ℕ × Form) = row_forms 14 rs in
-    let vs : List Variable = filter_map (variable_of (types_of (head_forms fs))) fs in
+    let types : List Struct = (types_of (head_forms fs)).structs in
+    let vs : List Variable = filter_map (variable_of types) fs in
+    let ns : List (List ℕ × NameSort) = filter_map declared_name fs in
     of_head fs
-    ∙ ap (λ ts. made ts vs (main_block (items_of fs) ∷ blocks_in fs)) (no_types (header_types 1) [] [] 14 rs)
-    ∙ ap (λ ws. made (header_types 1) ws (main_block (items_of fs) ∷ blocks_in fs)) (no_variables (types_of (head_forms fs)) 14 rs)
-    ∙ ap (λ is. made (header_types 1) [] (main_block is ∷ blocks_in fs)) (all_items 14 rs)
-    ∙ ap (λ bs. made (header_types 1) [] (main_block fs ∷ bs)) (no_blocks 14 rs)
+    ∙ ap (λ t. made t vs (main_block (items_of fs) ∷ blocks_in fs) ns) (no_types of_header [] [] 14 rs)
+    ∙ ap (λ ws. made of_header ws (main_block (items_of fs) ∷ blocks_in fs) ns) (no_variables types 14 rs)
+    ∙ ap (λ is. made of_header [] (main_block is ∷ blocks_in fs) ns) (all_items 14 rs)
+    ∙ ap (λ bs. made of_header [] (main_block fs ∷ bs) ns) (no_blocks 14 rs)
+    ∙ ap (λ ms. made of_header [] (main_block fs ∷ []) ms) (no_declared 14 rs)

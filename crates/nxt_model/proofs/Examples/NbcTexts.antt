@@ -15,11 +15,11 @@ use Rattle.nxt_model.specs.Nbc.NbcRules.{TextFault, Lex, Syntax, UnknownName, Tw
 
 -- ---- the first broken rule, by trying each place
 
-abbrev up_to : ℕ → List ℕ
+abbrev pub up_to : ℕ → List ℕ
 up_to zero = []
 up_to (suc n) = up_to n ++ (n + 1) ∷ []
 
-abbrev faults : ℕ → List TextFault
+abbrev pub faults : ℕ → List TextFault
 faults lines =
     map Syntax (up_to lines)
     ++ map UnknownName (up_to lines)
@@ -28,12 +28,12 @@ faults lines =
     ++ map OutOfRange (up_to lines)
     ++ NoMain ∷ TooMany 0 ∷ TooMany 1 ∷ []
 
-abbrev of_tokens : List ℕ → ℕ → Result (List Token) ℕ → Option TextFault
+abbrev pub of_tokens : List ℕ → ℕ → Result (List Token) ℕ → Option TextFault
 of_tokens text lines (Err l) = Some (Lex l)
 of_tokens text lines (Ok ts) = let fd = formed (lines_of text ts) in find (tells fd) (faults lines)
 
 -- of a text of so many lines
-abbrev first_broken : ℕ → List ℕ → Option TextFault
+abbrev pub first_broken : ℕ → List ℕ → Option TextFault
 first_broken lines text = of_tokens text lines (tokens_of text)
 
 no_token : first_broken 1 (codes "$") ≡ Some (Lex 1)

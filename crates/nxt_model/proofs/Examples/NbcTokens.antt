@@ -2,8 +2,8 @@
 use Rattle.std.proofs.Common.{◌≡◌, ℕ, [], ◌∷◌, refl, Ok, Err, Some, true}
 use Rattle.std.specs.Prelude.{codes, negsuc, option_map}
 use Rattle.nxt_model.specs.Nbc.Tokens.{Token, tokens_of, Name, Number, Quoted, lines_of}
-use Rattle.nxt_model.specs.Nbc.Types.{struct_named, shape_of_struct}
-use Rattle.nxt_model.specs.Nbc.Header.{header_types, constant_named}
+use Rattle.nxt_model.specs.Nbc.Types.{base_at, shape_in}
+use Rattle.nxt_model.specs.Nbc.Header.{header_at, constant_named, typed}
 use Rattle.nxt_types.specs.Calls.{is_cluster_of}
 use Rattle.nxt_types.specs.declared.calls.Call.TheVariants.{DrawText, ReadMessage}
 
@@ -31,10 +31,10 @@ lines : lines_of (codes "a -0x1F\n\n'b'") (token 1 0 1 ∷ token 1 2 5 ∷ token
     ≡ (1, Name (codes "a") ∷ Number (negsuc 30) ∷ []) ∷ (3, Quoted (codes "b") ∷ []) ∷ []
 lines = refl
 
-draw_text_cluster : option_map (λ s. is_cluster_of DrawText (shape_of_struct s)) (struct_named (header_types 1) (codes "TDrawText")) ≡ Some true
+draw_text_cluster : option_map (λ b. is_cluster_of DrawText (shape_in (header_at 0 1) (typed b 0))) (base_at (header_at 0 1) 2 (codes "TDrawText")) ≡ Some true
 draw_text_cluster = refl
 
-read_message_cluster : option_map (λ s. is_cluster_of ReadMessage (shape_of_struct s)) (struct_named (header_types 1) (codes "TMessageRead")) ≡ Some true
+read_message_cluster : option_map (λ b. is_cluster_of ReadMessage (shape_in (header_at 0 1) (typed b 0))) (base_at (header_at 0 1) 2 (codes "TMessageRead")) ≡ Some true
 read_message_cluster = refl
 
 power : constant_named (codes "Power") ≡ Some 2

@@ -1,8 +1,13 @@
 -- The names of NXTDefs.h.
-use Rattle.std.specs.Prelude.{ℕ, ◌+◌, List, [], ◌∷◌, ◌++◌, map, find, codes, bytes_eq, Option, option_map}
+use Rattle.std.specs.Prelude.{ℕ, ◌+◌, Bool, List, [], ◌∷◌, ◌++◌, map, find, codes, bytes_eq, Option, option_map}
+use Rattle.std.specs.List.{list_any}
 use Rattle.nxt_types.specs.Calls.{all_calls, call_name, call_number}
-use Rattle.nxt_model.specs.Nbc.Forms.{TypeName, type_name, Form, OpenStruct, CloseStruct, Member}
-use Rattle.nxt_model.specs.Nbc.Types.{Struct, struct_named, types_from}
+use Rattle.nxt_types.specs.declared.kind.Kind.{Kind}
+use Rattle.nxt_types.specs.declared.kind.Kind.TheVariants.{Ubyte, Sbyte, Uword, Sword, Ulong}
+use Rattle.nxt_model.specs.declared.nbc.NbcBase.{NbcBase}
+use Rattle.nxt_model.specs.declared.nbc.NbcBase.TheVariants as bases
+use Rattle.nxt_model.specs.declared.nbc.NbcType.{NbcType}
+use Rattle.nxt_model.specs.Nbc.Types.{Struct, StructMember}
 
 -- ---- numbers
 
@@ -52,64 +57,80 @@ constant_named name = option_map (λ c. c.1) (find (λ c. bytes_eq c.0 name) con
 
 -- ---- structs
 
--- a struct's lines, all with one number
-abbrev pub struct_lines : ℕ → List ℕ → List (List ℕ × TypeName) → List (ℕ × Form)
-struct_lines line name ms =
-    (line, OpenStruct name) ∷ map (λ m. (line, Member m.0 m.1)) ms ++ (line, CloseStruct) ∷ []
+abbrev pub typed : NbcBase → ℕ → NbcType
+typed base arrays = record { base = base; arrays = arrays }
 
-abbrev pub sbyte_result : List ℕ × TypeName
-sbyte_result = (codes "Result", type_name (codes "sbyte") 0)
+abbrev pub a_member : NbcType → List ℕ → StructMember
+a_member t name = record { name = name; type = t }
 
-abbrev pub byte_result : List ℕ × TypeName
-byte_result = (codes "Result", type_name (codes "byte") 0)
+abbrev pub of_kind : Kind → List ℕ → StructMember
+of_kind k name = a_member (typed (bases.Number k) 0) name
 
-abbrev pub of_type : List ℕ → List ℕ → List ℕ × TypeName
-of_type t name = (name, type_name t 0)
+abbrev pub a_byte : List ℕ → StructMember
+a_byte name = of_kind Ubyte name
 
-abbrev pub a_byte : List ℕ → List ℕ × TypeName
-a_byte name = of_type (codes "byte") name
+abbrev pub bytes_named : List ℕ → StructMember
+bytes_named name = a_member (typed (bases.Number Ubyte) 1) name
 
-abbrev pub a_location : List ℕ → List ℕ × TypeName
-a_location name = of_type (codes "TLocation") name
+-- TLocation and TSize, which are the header's first two structs
+abbrev pub a_location : List ℕ → StructMember
+a_location name = a_member (typed (bases.Struct 0) 0) name
 
-abbrev pub options : List ℕ × TypeName
-options = of_type (codes "dword") (codes "Options")
+abbrev pub a_size : List ℕ → StructMember
+a_size name = a_member (typed (bases.Struct 1) 0) name
 
-abbrev pub bytes_named : List ℕ → List ℕ × TypeName
-bytes_named name = (name, type_name (codes "byte") 1)
+abbrev pub sbyte_result : StructMember
+sbyte_result = of_kind Sbyte (codes "Result")
 
-abbrev pub header_lines : List (ℕ × Form)
-header_lines =
-    struct_lines 0 (codes "TLocation") (of_type (codes "sword") (codes "X") ∷ of_type (codes "sword") (codes "Y") ∷ [])
-    ++ struct_lines 0 (codes "TSize") (of_type (codes "sword") (codes "Width") ∷ of_type (codes "sword") (codes "Height") ∷ [])
-    ++ struct_lines 1 (codes "TSoundPlayTone")
-    (sbyte_result ∷ of_type (codes "word") (codes "Frequency") ∷ of_type (codes "word") (codes "Duration")
-    ∷ a_byte (codes "Loop") ∷ a_byte (codes "SoundLevel") ∷ [])
-    ++ struct_lines 1 (codes "TSoundGetState") (a_byte (codes "State") ∷ a_byte (codes "Flags") ∷ [])
-    ++ struct_lines 1 (codes "TSoundSetState") (byte_result ∷ a_byte (codes "State") ∷ a_byte (codes "Flags") ∷ [])
-    ++ struct_lines 1 (codes "TDrawText") (sbyte_result ∷ a_location (codes "Location") ∷ bytes_named (codes "Text") ∷ options ∷ [])
-    ++ struct_lines 1 (codes "TDrawPoint") (sbyte_result ∷ a_location (codes "Location") ∷ options ∷ [])
-    ++ struct_lines 1 (codes "TDrawLine")
-    (sbyte_result ∷ a_location (codes "StartLoc") ∷ a_location (codes "EndLoc") ∷ options ∷ [])
-    ++ struct_lines 1 (codes "TDrawCircle") (sbyte_result ∷ a_location (codes "Center") ∷ a_byte (codes "Size") ∷ options ∷ [])
-    ++ struct_lines 1 (codes "TDrawRect")
-    (sbyte_result ∷ a_location (codes "Location") ∷ of_type (codes "TSize") (codes "Size") ∷ options ∷ [])
-    ++ struct_lines 1 (codes "TSetScreenMode") (sbyte_result ∷ of_type (codes "dword") (codes "ScreenMode") ∷ [])
-    ++ struct_lines 1 (codes "TReadButton")
+abbrev pub options : StructMember
+options = of_kind Ulong (codes "Options")
+
+abbrev pub a_struct : List ℕ → List StructMember → Struct
+a_struct name members = record { name = name; members = members; line = 0 }
+
+-- the header's structs, as they stand behind no others and on no line
+abbrev pub header_structs : List Struct
+header_structs =
+    a_struct (codes "TLocation") (of_kind Sword (codes "X") ∷ of_kind Sword (codes "Y") ∷ [])
+    ∷ a_struct (codes "TSize") (of_kind Sword (codes "Width") ∷ of_kind Sword (codes "Height") ∷ [])
+    ∷ a_struct (codes "TSoundPlayTone")
+    (sbyte_result ∷ of_kind Uword (codes "Frequency") ∷ of_kind Uword (codes "Duration") ∷ a_byte (codes "Loop")
+    ∷ a_byte (codes "SoundLevel") ∷ [])
+    ∷ a_struct (codes "TSoundGetState") (a_byte (codes "State") ∷ a_byte (codes "Flags") ∷ [])
+    ∷ a_struct (codes "TSoundSetState") (a_byte (codes "Result") ∷ a_byte (codes "State") ∷ a_byte (codes "Flags") ∷ [])
+    ∷ a_struct (codes "TDrawText") (sbyte_result ∷ a_location (codes "Location") ∷ bytes_named (codes "Text") ∷ options ∷ [])
+    ∷ a_struct (codes "TDrawPoint") (sbyte_result ∷ a_location (codes "Location") ∷ options ∷ [])
+    ∷ a_struct (codes "TDrawLine") (sbyte_result ∷ a_location (codes "StartLoc") ∷ a_location (codes "EndLoc") ∷ options ∷ [])
+    ∷ a_struct (codes "TDrawCircle") (sbyte_result ∷ a_location (codes "Center") ∷ a_byte (codes "Size") ∷ options ∷ [])
+    ∷ a_struct (codes "TDrawRect") (sbyte_result ∷ a_location (codes "Location") ∷ a_size (codes "Size") ∷ options ∷ [])
+    ∷ a_struct (codes "TSetScreenMode") (sbyte_result ∷ of_kind Ulong (codes "ScreenMode") ∷ [])
+    ∷ a_struct (codes "TReadButton")
     (sbyte_result ∷ a_byte (codes "Index") ∷ a_byte (codes "Pressed") ∷ a_byte (codes "Count") ∷ a_byte (codes "Reset") ∷ [])
-    ++ struct_lines 1 (codes "TRandomNumber") (of_type (codes "sword") (codes "Result") ∷ [])
-    ++ struct_lines 1 (codes "TGetStartTick") (of_type (codes "dword") (codes "Result") ∷ [])
-    ++ struct_lines 1 (codes "TMessageWrite") (sbyte_result ∷ a_byte (codes "QueueID") ∷ bytes_named (codes "Message") ∷ [])
-    ++ struct_lines 1 (codes "TMessageRead")
+    ∷ a_struct (codes "TRandomNumber") (of_kind Sword (codes "Result") ∷ [])
+    ∷ a_struct (codes "TGetStartTick") (of_kind Ulong (codes "Result") ∷ [])
+    ∷ a_struct (codes "TMessageWrite") (sbyte_result ∷ a_byte (codes "QueueID") ∷ bytes_named (codes "Message") ∷ [])
+    ∷ a_struct (codes "TMessageRead")
     (sbyte_result ∷ a_byte (codes "QueueID") ∷ a_byte (codes "Remove") ∷ bytes_named (codes "Message") ∷ [])
-    ++ struct_lines 1 (codes "TKeepAlive") (of_type (codes "dword") (codes "Result") ∷ [])
+    ∷ a_struct (codes "TKeepAlive") (of_kind Ulong (codes "Result") ∷ [])
+    ∷ []
 
-abbrev pub at_line : ℕ → Struct → Struct
-at_line line s = record s { line = line }
+-- a type of the header's, where so many structs stand before them
+abbrev pub base_behind : ℕ → NbcBase → NbcBase
+base_behind first (bases.Struct i) = bases.Struct (first + i)
+base_behind first b = b
 
--- the structs that an include at the line gives
-abbrev pub header_types : ℕ → List Struct
-header_types line = map (at_line line) (types_from [] [] [] header_lines)
+abbrev pub type_behind : ℕ → NbcType → NbcType
+type_behind first t = record t { base = base_behind first t.base }
 
-abbrev pub header_struct_named : List ℕ → Option Struct
-header_struct_named name = struct_named (header_types 0) name
+abbrev pub member_behind : ℕ → StructMember → StructMember
+member_behind first m = record m { type = type_behind first m.type }
+
+abbrev pub struct_behind : ℕ → ℕ → Struct → Struct
+struct_behind first line s = record { name = s.name; members = map (member_behind first) s.members; line = line }
+
+-- the structs that an include at the line gives behind so many others
+abbrev pub header_at : ℕ → ℕ → List Struct
+header_at first line = map (struct_behind first line) header_structs
+
+abbrev pub is_header_struct : List ℕ → Bool
+is_header_struct name = list_any (λ s. bytes_eq s.name name) header_structs

@@ -3,7 +3,7 @@ use Rattle.std.specs.Prelude.{◌≡◌, ℕ, zero, suc, ◌+◌, Bool, true, fa
 use Rattle.std.specs.List.{list_any, list_all, enumerate_from}
 use Rattle.std.specs.Ordering.{int_eq}
 use Rattle.nxt_types.specs.Arithmetic.{cut}
-use Rattle.nxt_types.specs.Shapes.{Shape, Number, Array, Mutex}
+use Rattle.nxt_types.specs.Shapes.{Shape, Number, Array}
 use Rattle.nxt_types.specs.Names.{size}
 use Rattle.nxt_types.specs.Opcodes.{classes}
 use Rattle.nxt_types.specs.declared.opcodes.Class.{Class}
@@ -14,9 +14,11 @@ use Rattle.nxt_types.specs.declared.kind.Kind.TheVariants.{Slong}
 use Rattle.nxt_model.specs.Nbc.Tokens.{Token, tokens_of, lines_of}
 use Rattle.nxt_model.specs.Nbc.Forms as forms
 use Rattle.nxt_model.specs.Nbc.Forms.{Form, Formed, Term, Named, Literal, Quote, TypeName, Given, is_byte_name, formed}
-use Rattle.nxt_model.specs.Nbc.Types.{Struct, shape_of, types_at, is_type, plain_type, depth_of}
+use Rattle.nxt_model.specs.Nbc.Types.{Struct, shape_at, is_type_at, plain_type, depth_of}
 use Rattle.nxt_model.specs.TextProgram.{text_shape}
-use Rattle.nxt_model.specs.Nbc.Header.{constant_named, header_struct_named}
+use Rattle.nxt_model.specs.Nbc.Header.{constant_named, is_header_struct}
+use Rattle.nxt_model.specs.declared.nbc.NbcBase.{NbcBase}
+use Rattle.nxt_model.specs.declared.nbc.NbcBase.TheVariants as bases
 use Rattle.nxt_model.specs.Nbc.Text.{Source, Block, source_of, is_main, denoted, Denoted, AVariable, ANumber, AText, ABlock, AType, Missing, LabelAt, labels_from, label_named, is_left_out, is_word}
 
 pub data TextFault : Type 0 where
@@ -40,15 +42,15 @@ at_line line fs = filter_map (λ x. if x.0 == line then Some x.1 else None) fs
 abbrev pub is_too_large : Shape → Bool
 is_too_large s = nat_lt 49151 (size s) || nat_lt 8 (depth_of s)
 
-abbrev pub has_large_type : List Struct → Form → Bool
-has_large_type types (forms.Declare n t g) = is_too_large (shape_of types t)
-has_large_type types (forms.Member n t) = is_too_large (shape_of types t)
-has_large_type types f = false
+abbrev pub has_large_type : List Struct → ℕ → Form → Bool
+has_large_type types line (forms.Declare n t g) = is_too_large (shape_at types line t)
+has_large_type types line (forms.Member n t) = is_too_large (shape_at types line t)
+has_large_type types line f = false
 
 -- a text as the start of a list of a type that isn't ubyte; a name that is no type is left to another rule
-abbrev pub has_wrong_text : List Struct → Form → Bool
-has_wrong_text types (forms.Declare n t (forms.Bytes s)) = is_type types t.name && not (is_byte_name t.name)
-has_wrong_text types f = false
+abbrev pub has_wrong_text : List Struct → ℕ → Form → Bool
+has_wrong_text types line (forms.Declare n t (forms.Bytes s)) = is_type_at types line t.name && not (is_byte_name t.name)
+has_wrong_text types line f = false
 
 abbrev pub is_at : ℕ → Option ℕ → Bool
 is_at line None = false
@@ -56,8 +58,8 @@ is_at line (Some l) = l == line
 
 abbrev pub is_bad_line : Formed → ℕ → Bool
 is_bad_line fd line =
-    let types = types_at (source_of fd.forms).types line in
-    is_at line fd.bad || list_any (λ f. has_large_type types f || has_wrong_text types f) (at_line line fd.forms)
+    let types = (source_of fd.forms).types in
+    is_at line fd.bad || list_any (λ f. has_large_type types line f || has_wrong_text types line f) (at_line line fd.forms)
 
 -- ---- names that nothing declares
 
@@ -89,8 +91,8 @@ uses_unknown src ls line f = false
 
 -- a declaration of an unknown type
 abbrev pub uses_unknown_type : Source → ℕ → Form → Bool
-uses_unknown_type src line (forms.Declare n t g) = not (is_type (types_at src.types line) t.name)
-uses_unknown_type src line (forms.Member n t) = not (is_type (types_at src.types line) t.name)
+uses_unknown_type src line (forms.Declare n t g) = not (is_type_at src.types line t.name)
+uses_unknown_type src line (forms.Member n t) = not (is_type_at src.types line t.name)
 uses_unknown_type src line f = false
 
 -- a test of the lines of a block at a line
@@ -137,8 +139,7 @@ is_repeated line (d ∷ ds) = list_any (λ e. (e.0 == line) && bytes_eq e.1 d.1)
 -- the name of a type, also of a struct that ends before the line, or one of the header's
 abbrev pub is_taken : Source → ℕ → List ℕ → Bool
 is_taken src line name =
-    is_type (types_at src.types line) name
-    || (is_some src.included && (is_some (constant_named name) || is_some (header_struct_named name)))
+    is_type_at src.types line name || (is_some src.included && (is_some (constant_named name) || is_header_struct name))
 
 abbrev pub is_twice_named : List (ℕ × Form) → ℕ → Bool
 is_twice_named fs line =
@@ -214,13 +215,13 @@ abbrev pub is_no_thread : Source → ℕ → Option Term → Bool
 is_no_thread src line None = false
 is_no_thread src line (Some t) = not (is_thread (denoted src line t))
 
-abbrev pub is_mutex_shape : Option Shape → Bool
-is_mutex_shape (Some Mutex) = true
-is_mutex_shape _ = false
+abbrev pub is_mutex_base : Option NbcBase → Bool
+is_mutex_base (Some bases.Mutex) = true
+is_mutex_base _ = false
 
 -- a mutex, which stands in no struct and no array
 abbrev pub is_mutex_type : TypeName → Bool
-is_mutex_type t = is_mutex_shape (plain_type t.name)
+is_mutex_type t = is_mutex_base (plain_type t.name)
 
 -- operand k, counted from 1, of a line
 abbrev pub is_wrong_kind : Source → ℕ → ℕ → Form → Bool
@@ -259,7 +260,7 @@ is_refused_number src line op ts (k, t) =
     is_wide (denoted src line t) || not (is_allowed op (sorts_of src line op ts) k)
 
 abbrev pub is_out_of_range : Source → ℕ → Form → Bool
-is_out_of_range src line (forms.Declare n t g) = not (start_fits (shape_of (types_at src.types line) t) g)
+is_out_of_range src line (forms.Declare n t g) = not (start_fits (shape_at src.types line t) g)
 is_out_of_range src line (forms.Do label op cmp ts) = list_any (is_refused_number src line op ts) (enumerate_from 0 ts)
 is_out_of_range src line f = false
 

@@ -1,5 +1,5 @@
 -- What the names of a text stand for, and the program that it spells.
-use Rattle.std.specs.Prelude.{ℕ, ◌+◌, ◌%◌, Bool, true, false, ◌&&◌, ◌||◌, not, if◌then◌else◌, ◌==◌, nat_lt, List, [], ◌∷◌, ◌++◌, map, zip, filter, find, filter_map, flat_map, count_by, length, drop, codes, bytes_eq, slice_get, ℤ, pos, int_lt, int_le, nat_abs, Option, Some, None, is_some, option_map, option_and_then, unwrap_or, option_to_list}
+use Rattle.std.specs.Prelude.{ℕ, ◌+◌, ◌%◌, Bool, true, false, ◌&&◌, ◌||◌, not, if◌then◌else◌, ◌==◌, nat_lt, List, [], ◌∷◌, ◌++◌, map, zip, filter, find, filter_map, flat_map, count_by, length, codes, bytes_eq, slice_get, ℤ, pos, int_lt, int_le, nat_abs, Option, Some, None, option_map, option_and_then, unwrap_or, option_to_list}
 use Rattle.std.specs.List.{list_any, position, enumerate_from}
 use Rattle.nxt_types.specs.Arithmetic.{cut}
 use Rattle.nxt_types.specs.Shapes.{Shape}
@@ -13,8 +13,10 @@ use Rattle.nxt_types.specs.declared.kind.Cmp.TheVariants.{Lt}
 use Rattle.nxt_types.specs.declared.kind.Kind.TheVariants.{Slong}
 use Rattle.nxt_model.specs.Nbc.Forms as forms
 use Rattle.nxt_model.specs.Nbc.Forms.{Form, Term, Named, Literal, Quote, TypeName, Given}
-use Rattle.nxt_model.specs.Nbc.Types.{Struct, types_from, types_at, shape_of, member_path, Found}
-use Rattle.nxt_model.specs.Nbc.Header.{header_types, constant_named, header_struct_named}
+use Rattle.nxt_model.specs.Nbc.Types.{Struct, type_at, shape_in, member_path, Found}
+use Rattle.nxt_model.specs.Nbc.Header.{constant_named, is_header_struct}
+use Rattle.nxt_model.specs.Nbc.Structs.{types_of}
+use Rattle.nxt_model.specs.declared.nbc.NbcType.{NbcType}
 use Rattle.nxt_model.specs.declared.nbc.NbcStart.{NbcStart}
 use Rattle.nxt_model.specs.declared.nbc.NbcStart.TheVariants as starts
 use Rattle.nxt_model.specs.declared.nbc.NbcArg.{NbcArg}
@@ -27,8 +29,7 @@ use Rattle.nxt_model.specs.TextProgram as program
 
 pub record Variable : Type 0 where
   pub name : List ℕ
-  pub type : TypeName
-  pub shape : Shape
+  pub type : NbcType
   pub given : Given
   pub line : ℕ
 
@@ -39,30 +40,31 @@ pub record Block : Type 0 where
   pub line : ℕ
   pub items : List (ℕ × Form)
 
--- what a text declares; blocks stand in the text's order
+-- of what sort a declared name is
+pub data NameSort : Type 0 where
+  OfVariable : NameSort
+  OfStruct : NameSort
+  OfBlock : NameSort
+
+-- what a text declares: structs and blocks stand in the text's order, and so do all names but the header's
 pub record Source : Type 0 where
   pub included : Option ℕ
   pub types : List Struct
   pub vars : List Variable
   pub blocks : List Block
+  pub names : List (List ℕ × NameSort)
 
--- where the header is included first
-abbrev pub include_line : List (ℕ × Form) → Option ℕ
-include_line [] = None
-include_line ((l, forms.Include) ∷ fs) = Some l
-include_line (f ∷ fs) = include_line fs
-
-abbrev pub header_at : Option ℕ → List Struct
-header_at None = []
-header_at (Some l) = header_types l
-
-abbrev pub types_of : List (ℕ × Form) → List Struct
-types_of fs = types_from (header_at (include_line fs)) [] [] fs
-
+-- a variable's type is that at its line
 abbrev pub variable_of : List Struct → ℕ × Form → Option Variable
-variable_of types (l, forms.Declare n t g) =
-    Some (record { name = n; type = t; shape = shape_of (types_at types l) t; given = g; line = l })
+variable_of types (l, forms.Declare n t g) = Some (record { name = n; type = type_at types l t; given = g; line = l })
 variable_of types (l, f) = None
+
+abbrev pub declared_name : ℕ × Form → Option (List ℕ × NameSort)
+declared_name (l, forms.Declare n t g) = Some (n, OfVariable)
+declared_name (l, forms.OpenStruct n) = Some (n, OfStruct)
+declared_name (l, forms.OpenThread n) = Some (n, OfBlock)
+declared_name (l, forms.OpenSubroutine n) = Some (n, OfBlock)
+declared_name (l, f) = None
 
 -- up to the line that closes the block
 abbrev pub items_of : List (ℕ × Form) → List (ℕ × Form)
@@ -81,11 +83,13 @@ blocks_in (f ∷ fs) = blocks_in fs
 
 abbrev pub source_of : List (ℕ × Form) → Source
 source_of fs =
+    let types = types_of fs in
     record {
-      included = include_line fs;
-      types = types_of fs;
-      vars = filter_map (variable_of (types_of fs)) fs;
+      included = types.included;
+      types = types.structs;
+      vars = filter_map (variable_of types.structs) fs;
       blocks = blocks_in fs;
+      names = filter_map declared_name fs;
     }
 
 abbrev pub is_main : Block → Bool
@@ -117,6 +121,10 @@ pub data Denoted : Type 0 where
   -- nothing declares the name, or the member isn't there
   Missing : Denoted
 
+-- of the lines that declare a name the first counts
+abbrev pub sort_named : Source → List ℕ → Option NameSort
+sort_named src name = option_map (λ d. d.1) (find (λ d. bytes_eq d.0 name) src.names)
+
 abbrev pub variable_named : Source → List ℕ → Option ℕ
 variable_named src name = position (λ v. bytes_eq v.name name) src.vars
 
@@ -127,44 +135,54 @@ block_named src name = position (λ b. bytes_eq b.name name) (ordered src)
 abbrev pub block_at : Source → ℕ → Option Block
 block_at src k = slice_get (ordered src) k
 
-abbrev pub number_named : Source → ℕ → List ℕ → Option ℕ
-number_named src line name = if is_included_at src line then constant_named name else None
-
 abbrev pub member_of : Source → ℕ → Option Found → Denoted
 member_of src i None = Missing
-member_of src i (Some f) = AVariable i f.0 (shape_of src.types f.1)
+member_of src i (Some f) = AVariable i f.0 (shape_in src.types f.1)
 
 abbrev pub path_in : Source → ℕ → List (List ℕ) → Option Variable → Denoted
 path_in src i ns None = Missing
 path_in src i ns (Some v) = member_of src i (member_path src.types v.type ns)
 
--- a name that is no variable's: it has no members
-abbrev pub other_name : Option ℕ → Option Block → Option ℕ → Bool → List (List ℕ) → Denoted
-other_name n b k is_type (m ∷ ms) = Missing
-other_name (Some n) b k is_type [] = ANumber (pos n)
-other_name None (Some b) (Some k) is_type [] = ABlock k b.subroutine
-other_name None b k is_type [] = if is_type then AType else Missing
+abbrev pub a_variable : Source → Option ℕ → List (List ℕ) → Denoted
+a_variable src None ns = Missing
+a_variable src (Some i) ns = path_in src i ns (slice_get src.vars i)
 
--- the structs of the text's own, behind those of the header
-abbrev pub own_types : Source → List Struct
-own_types src = drop (length (header_at src.included)) src.types
+-- the number of a block, and whether it is a subroutine
+abbrev pub block_place : ℕ → Block → ℕ × Bool
+block_place k b = (k, b.subroutine)
 
--- the name of a struct; the header's are known behind its line
-abbrev pub is_struct_at : Source → ℕ → List ℕ → Bool
-is_struct_at src line name =
-    (is_included_at src line && is_some (header_struct_named name)) || list_any (λ s. bytes_eq s.name name) (own_types src)
+abbrev pub block_by : Source → List ℕ → Option (ℕ × Bool)
+block_by src name = option_and_then (λ k. option_map (block_place k) (block_at src k)) (block_named src name)
 
-abbrev pub by_variable : Source → ℕ → Option ℕ → List ℕ → List (List ℕ) → Denoted
-by_variable src line (Some i) name ns = path_in src i ns (slice_get src.vars i)
-by_variable src line None name ns =
-    let k = block_named src name in
-    other_name (number_named src line name) (option_and_then (block_at src) k) k (is_struct_at src line name) ns
+abbrev pub a_block : Option (ℕ × Bool) → Denoted
+a_block None = Missing
+a_block (Some b) = ABlock b.0 b.1
+
+-- a name of the header's, which are known behind its line
+abbrev pub of_header : Option ℕ → Bool → Denoted
+of_header (Some n) is_type = ANumber (pos n)
+of_header None is_type = if is_type then AType else Missing
+
+abbrev pub predefined : Source → ℕ → List ℕ → Denoted
+predefined src line name = if is_included_at src line then of_header (constant_named name) (is_header_struct name) else Missing
+
+-- only variables have members
+abbrev pub alone : List (List ℕ) → Denoted → Denoted
+alone [] d = d
+alone (n ∷ ns) d = Missing
+
+-- a name by the sort of what declares it
+abbrev pub by_sort : Source → ℕ → Option NameSort → List ℕ → List (List ℕ) → Denoted
+by_sort src line (Some OfVariable) name ns = a_variable src (variable_named src name) ns
+by_sort src line (Some OfStruct) name ns = alone ns AType
+by_sort src line (Some OfBlock) name ns = alone ns (a_block (block_by src name))
+by_sort src line None name ns = alone ns (predefined src line name)
 
 abbrev pub denoted : Source → ℕ → Term → Denoted
 denoted src line (Literal z) = ANumber z
 denoted src line (Quote s) = AText s
 denoted src line (Named []) = Missing
-denoted src line (Named (n ∷ ns)) = by_variable src line (variable_named src n) n ns
+denoted src line (Named (n ∷ ns)) = by_sort src line (sort_named src n) n ns
 
 -- ---- labels
 
@@ -331,9 +349,9 @@ program_block src (k, b) =
       body = flat_map (statements_in src (labels_from 0 b.items) k b.subroutine (length ds)) b.items;
     }
 
-abbrev pub program_var : Variable → program.Variable
-program_var v = record { shape = v.shape; start = start_of v.given }
+abbrev pub program_var : List Struct → Variable → program.Variable
+program_var types v = record { shape = shape_in types v.type; start = start_of v.given }
 
 abbrev pub program_of : Source → program.Text
 program_of src =
-    record { vars = map program_var src.vars; blocks = map (program_block src) (numbered src) }
+    record { vars = map (program_var src.types) src.vars; blocks = map (program_block src) (numbered src) }

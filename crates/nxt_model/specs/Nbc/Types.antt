@@ -1,16 +1,16 @@
 -- The types of a text's variables.
-use Rattle.std.specs.Prelude.{ℕ, zero, suc, ◌+◌, Bool, if◌then◌else◌, ◌==◌, nat_lt, max, List, [], ◌∷◌, ◌++◌, map, filter, find, codes, bytes_eq, slice_get, Option, Some, None, is_some, option_map, option_and_then}
+use Rattle.std.specs.Prelude.{ℕ, ◌+◌, Bool, ◌&&◌, if◌then◌else◌, ◌==◌, nat_lt, max, List, [], ◌∷◌, map, find, codes, bytes_eq, slice_get, Option, Some, None, is_some, option_map, option_and_then, unwrap_or}
 use Rattle.std.specs.List.{position}
-use Rattle.nxt_types.specs.Shapes.{Shape, Void, Number, Array, Cluster, Mutex, Members, no_members, member, cluster_of, leaf_bytes}
+use Rattle.nxt_types.specs.Shapes.{Shape, Void, Number, Array, Cluster, Mutex, Members, no_members, member}
 use Rattle.nxt_types.specs.declared.kind.Kind.TheVariants.{Ubyte, Sbyte, Uword, Sword, Ulong, Slong}
-use Rattle.nxt_model.specs.Nbc.Forms.{TypeName, Form, OpenStruct, CloseStruct, Member}
+use Rattle.nxt_model.specs.declared.nbc.NbcBase.{NbcBase}
+use Rattle.nxt_model.specs.declared.nbc.NbcBase.TheVariants as bases
+use Rattle.nxt_model.specs.declared.nbc.NbcType.{NbcType}
+use Rattle.nxt_model.specs.declared.nbc.NbcStruct.{NbcStruct}
+use Rattle.nxt_model.specs.TextProgram.{shape_by, struct_shapes}
+use Rattle.nxt_model.specs.Nbc.Forms.{TypeName}
 
 -- ---- shapes
-
--- so many arrays around a shape, each with its packed elements
-abbrev pub arrays_of : ℕ → Shape → Shape
-arrays_of zero s = s
-arrays_of (suc n) s = let inner = arrays_of n s in Array (leaf_bytes inner) inner
 
 -- how many arrays and groups enclose the deepest part
 abbrev mutual
@@ -25,26 +25,12 @@ abbrev mutual
   depth_among no_members = 0
   depth_among (member s ss) = max (depth_of s) (depth_among ss)
 
--- ---- names of types
-
-abbrev pub plain_types : List (List ℕ × Shape)
-plain_types =
-    (codes "byte", Number Ubyte) ∷ (codes "ubyte", Number Ubyte) ∷ (codes "db", Number Ubyte) ∷ (codes "sbyte", Number Sbyte)
-    ∷ (codes "word", Number Uword) ∷ (codes "uword", Number Uword) ∷ (codes "dw", Number Uword) ∷ (codes "sword", Number Sword)
-    ∷ (codes "dword", Number Ulong) ∷ (codes "long", Number Ulong) ∷ (codes "ulong", Number Ulong) ∷ (codes "dd", Number Ulong)
-    ∷ (codes "sdword", Number Slong) ∷ (codes "slong", Number Slong) ∷ (codes "mutex", Mutex) ∷ []
-
-abbrev pub plain_type : List ℕ → Option Shape
-plain_type name = option_map (λ p. p.1) (find (λ p. bytes_eq p.0 name) plain_types)
-
 -- ---- structs
 
--- a member's name, its type's name, its shape, and the line of its declaration
+-- a member's name and its type
 pub record StructMember : Type 0 where
   pub name : List ℕ
-  pub type : TypeName
-  pub shape : Shape
-  pub line : ℕ
+  pub type : NbcType
 
 -- a struct's name, its members, and the line from which on it is a type
 pub record Struct : Type 0 where
@@ -52,65 +38,79 @@ pub record Struct : Type 0 where
   pub members : List StructMember
   pub line : ℕ
 
--- of two structs of one name the first counts
-abbrev pub struct_named : List Struct → List ℕ → Option Struct
-struct_named types name = find (λ s. bytes_eq s.name name) types
+-- without its names
+abbrev pub plain_struct : Struct → NbcStruct
+plain_struct s = record { members = map (λ m. m.type) s.members }
 
-abbrev pub shape_of_struct : Struct → Shape
-shape_of_struct s = cluster_of (map (λ m. m.shape) s.members)
+-- the shapes of structs in the order of the text
+abbrev pub type_shapes : List Struct → List Shape
+type_shapes types = struct_shapes (map plain_struct types)
 
-abbrev pub one_of : Option Shape → Option Struct → Option Shape
-one_of (Some s) t = Some s
-one_of None t = option_map shape_of_struct t
+-- the shape of a type among structs
+abbrev pub shape_in : List Struct → NbcType → Shape
+shape_in types t = shape_by (type_shapes types) t
 
--- the shape of a type's name, if it is one
-abbrev pub named_shape : List Struct → List ℕ → Option Shape
-named_shape types name = one_of (plain_type name) (struct_named types name)
+-- ---- names of types
 
-abbrev pub or_number : Option Shape → Shape
-or_number None = Number Ubyte
-or_number (Some s) = s
+abbrev pub plain_types : List (List ℕ × NbcBase)
+plain_types =
+    (codes "byte", bases.Number Ubyte) ∷ (codes "ubyte", bases.Number Ubyte) ∷ (codes "db", bases.Number Ubyte)
+    ∷ (codes "sbyte", bases.Number Sbyte) ∷ (codes "word", bases.Number Uword) ∷ (codes "uword", bases.Number Uword)
+    ∷ (codes "dw", bases.Number Uword) ∷ (codes "sword", bases.Number Sword) ∷ (codes "dword", bases.Number Ulong)
+    ∷ (codes "long", bases.Number Ulong) ∷ (codes "ulong", bases.Number Ulong) ∷ (codes "dd", bases.Number Ulong)
+    ∷ (codes "sdword", bases.Number Slong) ∷ (codes "slong", bases.Number Slong) ∷ (codes "mutex", bases.Mutex) ∷ []
 
--- the shape of a type; a name that is no type counts as a number
-abbrev pub shape_of : List Struct → TypeName → Shape
-shape_of types t = arrays_of t.arrays (or_number (named_shape types t.name))
+abbrev pub plain_type : List ℕ → Option NbcBase
+plain_type name = option_map (λ p. p.1) (find (λ p. bytes_eq p.0 name) plain_types)
 
-abbrev pub is_type : List Struct → List ℕ → Bool
-is_type types name = is_some (named_shape types name)
+-- a struct of this name that is a type before the line
+abbrev pub is_before : ℕ → List ℕ → Struct → Bool
+is_before line name s = nat_lt s.line line && bytes_eq s.name name
 
--- those that are declared before a line
-abbrev pub types_at : List Struct → ℕ → List Struct
-types_at types line = filter (λ s. nat_lt s.line line) types
+abbrev pub one_of : Option NbcBase → Option ℕ → Option NbcBase
+one_of (Some b) at = Some b
+one_of None at = option_map bases.Struct at
 
-abbrev pub with_member : List Struct → List StructMember → ℕ → List ℕ → TypeName → List StructMember
-with_member types ms line name t = ms ++ record { name = name; type = t; shape = shape_of (types_at types line) t; line = line } ∷ []
+-- what a type's name stands for at a line: a plain type, or else the first struct of the name that is declared before
+abbrev pub base_at : List Struct → ℕ → List ℕ → Option NbcBase
+base_at types line name = one_of (plain_type name) (position (is_before line name) types)
 
--- the types after these lines, where the types before them are known, and the members so far of the struct that is open
-abbrev pub types_from : List Struct → List ℕ → List StructMember → List (ℕ × Form) → List Struct
-types_from types name ms [] = types
-types_from types name ms ((l, OpenStruct n) ∷ fs) = types_from types n [] fs
-types_from types name ms ((l, Member n t) ∷ fs) = types_from types name (with_member types ms l n t) fs
-types_from types name ms ((l, CloseStruct) ∷ fs) =
-    types_from (types ++ record { name = name; members = ms; line = l } ∷ []) [] [] fs
-types_from types name ms (f ∷ fs) = types_from types name ms fs
+abbrev pub is_type_at : List Struct → ℕ → List ℕ → Bool
+is_type_at types line name = is_some (base_at types line name)
+
+-- the type at a line; a name that is no type counts as a number
+abbrev pub type_at : List Struct → ℕ → TypeName → NbcType
+type_at types line t = record { base = unwrap_or (base_at types line t.name) (bases.Number Ubyte); arrays = t.arrays }
+
+abbrev pub shape_at : List Struct → ℕ → TypeName → Shape
+shape_at types line t = shape_in types (type_at types line t)
 
 -- ---- members
 
+-- the struct that a type is, where it is one
+abbrev pub struct_of_base : List Struct → NbcBase → Option Struct
+struct_of_base types (bases.Struct i) = slice_get types i
+struct_of_base types b = None
+
+abbrev pub struct_of : List Struct → NbcType → Option Struct
+struct_of types t = if t.arrays == 0 then struct_of_base types t.base else None
+
+-- the position of a struct's member of this name, and its type
+abbrev pub member_in : List ℕ → Struct → Option (ℕ × NbcType)
+member_in name s =
+    option_and_then (λ k. option_map (λ m. (k, m.type)) (slice_get s.members k)) (position (λ m. bytes_eq m.name name) s.members)
+
+abbrev pub member_of_type : List Struct → NbcType → List ℕ → Option (ℕ × NbcType)
+member_of_type types t name = option_and_then (member_in name) (struct_of types t)
+
 -- positions of members, and the type of the last of them
 abbrev pub Found : Type 0
-Found = List ℕ × TypeName
+Found = List ℕ × NbcType
 
 abbrev pub below : ℕ → Found → Found
 below k f = (k ∷ f.0, f.1)
 
 -- where names of members lead from a type
-abbrev pub member_path : List Struct → TypeName → List (List ℕ) → Option Found
+abbrev pub member_path : List Struct → NbcType → List (List ℕ) → Option Found
 member_path types t [] = Some ([], t)
-member_path types t (n ∷ ns) =
-    if t.arrays == 0
-    then option_and_then
-    (λ s. option_and_then
-    (λ k. option_and_then (λ m. option_map (below k) (member_path types m.type ns)) (slice_get s.members k))
-    (position (λ m. bytes_eq m.name n) s.members))
-    (struct_named types t.name)
-    else None
+member_path types t (n ∷ ns) = option_and_then (λ m. option_map (below m.0) (member_path types m.1 ns)) (member_of_type types t n)

@@ -2,7 +2,6 @@
 use Rattle.std.proofs.Common.{ℕ, Bool, ◌||◌, Option}
 use Rattle.std.specs.List.{list_any}
 use Rattle.nxt_model.specs.Nbc.Forms.{Form, Formed}
-use Rattle.nxt_model.specs.Nbc.Types.{types_at}
 use Rattle.nxt_model.specs.Nbc.Text.{source_of}
 use Rattle.nxt_model.specs.Nbc.NbcRules.{Syntax, UnknownName, WrongKind, OutOfRange, at_line, has_large_type, has_wrong_text, is_at, uses_unknown, uses_unknown_type, in_blocks, is_wrong_kind, is_out_of_range, tells}
 use Rattle.nxt_nbc_lines.specs.Firsts.{Ascends, IsLeast, first_line, lesser, IsLeastPair, first_pair, first_in_blocks}
@@ -12,7 +11,7 @@ use Rattle.nxt_nbc_lines.proofs.Laws.FirstLines.{least_first, least_lesser, leas
 -- a form's type is too large, or it starts with a text and isn't of bytes
 abbrev pub is_bad_form : Formed → ℕ → Form → Bool
 is_bad_form fd line f =
-    let types = types_at (source_of fd.forms).types line in has_large_type types f || has_wrong_text types f
+    let types = (source_of fd.forms).types in has_large_type types line f || has_wrong_text types line f
 
 -- the rule of syntax
 pub least_syntax : (fd : Formed) (n : ℕ) → Ascends n fd.forms → IsLeast (λ l. tells fd (Syntax l)) (lesser fd.bad (first_line (is_bad_form fd) fd.forms))

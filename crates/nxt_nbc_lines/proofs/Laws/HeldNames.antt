@@ -1,10 +1,10 @@
 -- What names stand for is the same where numbers are held.
-use Rattle.std.proofs.Common.{◌≡◌, ℕ, ◌+◌, Bool, not, List, [], ◌∷◌, ◌++◌, map, filter, Option, Some, None, option_map, option_and_then, bytes_eq, slice_get, position, refl, ap, sym, ◌∙◌, ℤ}
+use Rattle.std.proofs.Common.{◌≡◌, ℕ, ◌+◌, not, List, [], ◌∷◌, ◌++◌, map, filter, Option, Some, None, option_map, option_and_then, bytes_eq, slice_get, position, refl, ap, sym, ◌∙◌, ℤ}
 use Rattle.std.specs.Prelude.{if◌then◌else◌}
 use Rattle.std.proofs.lemmas.List.{map-append}
 use Rattle.std.proofs.lemmas.Option.{slice_get-map}
 use Rattle.nxt_model.specs.Nbc.Forms.{Form, Do, Label, Term, Named, Literal, Quote}
-use Rattle.nxt_model.specs.Nbc.Text.{Source, Variable, Block, is_main, ordered, Denoted, ANumber, variable_named, block_named, block_at, number_named, path_in, other_name, is_struct_at, by_variable, denoted, is_statement, label_of, label_at, labels_from, is_left_out}
+use Rattle.nxt_model.specs.Nbc.Text.{Source, Variable, Block, NameSort, OfVariable, OfStruct, OfBlock, is_main, ordered, Denoted, ANumber, sort_named, variable_named, block_named, block_at, path_in, a_variable, block_place, block_by, a_block, alone, by_sort, denoted, is_statement, label_of, label_at, labels_from, is_left_out}
 use Rattle.nxt_nbc_lines.specs.Held.{held, held_term, held_form}
 use Rattle.nxt_nbc_lines.proofs.Laws.HeldLists.{filter_same, position_same}
 use Rattle.nxt_nbc_lines.proofs.Laws.HeldSources.{held_forms, held_variable, held_block, held_source}
@@ -23,9 +23,21 @@ pub block_named_held : (src : Source) (name : List ℕ) → block_named (held_so
 block_named_held src name =
     ap (position (λ b. bytes_eq b.name name)) (ordered_held src) ∙ position_same held_block (λ b. bytes_eq b.name name) (λ b. refl) (ordered src)
 
-block_at_held : (src : Source) (o : Option ℕ) → option_and_then (block_at (held_source src)) o ≡ option_map held_block (option_and_then (block_at src) o)
-block_at_held src None = refl
-block_at_held src (Some k) = ap (λ bs. slice_get bs k) (ordered_held src) ∙ slice_get-map held_block (ordered src) k
+kept_held : (k : ℕ) (o : Option Block) → option_map (block_place k) (option_map held_block o) ≡ option_map (block_place k) o
+kept_held k None = refl
+kept_held k (Some b) = refl
+
+block_held : (src : Source) (o : Option ℕ)
+    → option_and_then (λ k. option_map (block_place k) (block_at (held_source src) k)) o ≡ option_and_then (λ k. option_map (block_place k) (block_at src k)) o
+block_held src None = refl
+block_held src (Some k) =
+    ap (λ bs. option_map (block_place k) (slice_get bs k)) (ordered_held src)
+    ∙ ap (option_map (block_place k)) (slice_get-map held_block (ordered src) k)
+    ∙ kept_held k (block_at src k)
+
+block_by_held : (src : Source) (name : List ℕ) → block_by (held_source src) name ≡ block_by src name
+block_by_held src name =
+    ap (option_and_then (λ k. option_map (block_place k) (block_at (held_source src) k))) (block_named_held src name) ∙ block_held src (block_named src name)
 
 -- ---- names
 
@@ -36,22 +48,16 @@ path_held : (src : Source) (i : ℕ) (ns : List (List ℕ)) (o : Option Variable
 path_held src i ns None = refl
 path_held src i ns (Some v) = refl
 
-other_held : (n : Option ℕ) (b : Option Block) (k : Option ℕ) (is_type : Bool) (ms : List (List ℕ)) → other_name n (option_map held_block b) k is_type ms ≡ other_name n b k is_type ms
-other_held n b k is_type (m ∷ ms) = refl
-other_held (Some n) b k is_type [] = refl
-other_held None None k is_type [] = refl
-other_held None (Some b) None is_type [] = refl
-other_held None (Some b) (Some k) is_type [] = refl
+variable_held : (src : Source) (o : Option ℕ) (ns : List (List ℕ)) → a_variable (held_source src) o ns ≡ a_variable src o ns
+variable_held src None ns = refl
+variable_held src (Some i) ns = ap (path_in (held_source src) i ns) (slice_get-map held_variable src.vars i) ∙ path_held src i ns (slice_get src.vars i)
 
-by_variable_held : (src : Source) (line : ℕ) (o : Option ℕ) (name : List ℕ) (ns : List (List ℕ)) → by_variable (held_source src) line o name ns ≡ by_variable src line o name ns
-by_variable_held src line (Some i) name ns = ap (path_in (held_source src) i ns) (slice_get-map held_variable src.vars i) ∙ path_held src i ns (slice_get src.vars i)
-by_variable_held src line None name ns =
-    let n = number_named src line name in
-    let is_type = is_struct_at src line name in
-    let k = block_named src name in
-    ap (λ j. other_name n (option_and_then (block_at (held_source src)) j) j is_type ns) (block_named_held src name)
-    ∙ ap (λ b. other_name n b k is_type ns) (block_at_held src k)
-    ∙ other_held n (option_and_then (block_at src) k) k is_type ns
+by_sort_held : (src : Source) (line : ℕ) (s : Option NameSort) (name : List ℕ) (ns : List (List ℕ)) → by_sort (held_source src) line s name ns ≡ by_sort src line s name ns
+by_sort_held src line (Some OfVariable) name ns =
+    ap (λ i. a_variable (held_source src) i ns) (variable_named_held src name) ∙ variable_held src (variable_named src name) ns
+by_sort_held src line (Some OfStruct) name ns = refl
+by_sort_held src line (Some OfBlock) name ns = ap (λ b. alone ns (a_block b)) (block_by_held src name)
+by_sort_held src line None name ns = refl
 
 -- what asks nothing of a number but what its held one tells asks the same of what a term stands for
 pub denoted_held : {B : Type 0} (f : Denoted → B) → ((z : ℤ) → f (ANumber (held z)) ≡ f (ANumber z)) → (src : Source) (line : ℕ) (t : Term)
@@ -60,7 +66,7 @@ denoted_held f same src line (Literal z) = same z
 denoted_held f same src line (Quote s) = refl
 denoted_held f same src line (Named []) = refl
 denoted_held f same src line (Named (n ∷ ns)) =
-    ap (λ o. f (by_variable (held_source src) line o n ns)) (variable_named_held src n) ∙ ap f (by_variable_held src line (variable_named src n) n ns)
+    ap f (by_sort_held src line (sort_named src n) n ns)
 
 pub left_out_held : (src : Source) (line : ℕ) (t : Term) → is_left_out (held_source src) line (held_term t) ≡ is_left_out src line t
 left_out_held src line (Literal z) = refl

@@ -12,7 +12,7 @@ use Rattle.nxt_types.specs.declared.opcodes.Class.{Class}
 use Rattle.nxt_types.specs.declared.opcodes.Class.TheVariants.{Immediate, Clump, Offset, OptionalOut, OptionalIn}
 use Rattle.nxt_types.specs.declared.instr.Op.{Op}
 use Rattle.nxt_model.specs.Nbc.Forms.{Form, Declare, Precedes, Follows, ExitTo, Call, Do, Given, Nothing, One, Many, Bytes, Term, Named, Literal, Quote}
-use Rattle.nxt_model.specs.Nbc.Types.{shape_of, types_at}
+use Rattle.nxt_model.specs.Nbc.Types.{shape_at}
 use Rattle.nxt_model.specs.Nbc.Text.{Source, denoted, is_left_out}
 use Rattle.nxt_model.specs.Nbc.NbcRules.{sort_of_number, sort_of_denoted, sort_of_term, sorts_from, sorts_of, is_label, is_subroutine, is_thread, is_number, has_class, class_at, is_wrong_term, is_no_thread, is_wrong_kind, fits_shape, fit_elements, start_fits, is_wide, is_refused_number, is_out_of_range}
 use Rattle.nxt_nbc_lines.specs.Held.{held, held_term, held_given, held_form}
@@ -118,7 +118,7 @@ refused_held src line op ts (k, t) =
     ∙ ap (λ ss. is_wide (denoted src line t) || not (is_allowed op ss k)) (sorts_held src line op ts)
 
 pub out_of_range_held : (src : Source) (line : ℕ) (f : Form) → is_out_of_range (held_source src) line (held_form f) ≡ is_out_of_range src line f
-out_of_range_held src line (Declare n t g) = ap not (start_held (shape_of (types_at src.types line) t) g)
+out_of_range_held src line (Declare n t g) = ap not (start_held (shape_at src.types line t) g)
 out_of_range_held src line (Do label op cmp ts) =
     let test = is_refused_number (held_source src) line op (map held_term ts) in
     ap (list_any test) (enumerate_same held_term 0 ts)

@@ -7,7 +7,7 @@ use Rattle.nxt_types.specs.Shapes.{Shape, Array}
 use Rattle.nxt_types.specs.OperandRules.{is_allowed}
 use Rattle.nxt_types.specs.declared.instr.Op.{Op}
 use Rattle.nxt_model.specs.Nbc.Forms.{Form, Declare, Precedes, Follows, ExitTo, Call, Do, Formed, Given, Nothing, One, Many, Bytes, Term, Named, Literal, Quote}
-use Rattle.nxt_model.specs.Nbc.Types.{shape_of, types_at}
+use Rattle.nxt_model.specs.Nbc.Types.{shape_at}
 use Rattle.nxt_model.specs.Nbc.Text.{Source, source_of, denoted}
 use Rattle.nxt_model.specs.Nbc.NbcRules.{TextFault, WrongKind, OutOfRange, at_line, is_subroutine, is_thread, is_no_thread, is_wrong_kind, fits_shape, fit_elements, start_fits, sorts_of, is_wide, is_refused_number, is_out_of_range, tells}
 use Rattle.nxt_nbc_lines.specs.Held.{held, held_term, held_given, held_form, held_formed}
@@ -67,7 +67,7 @@ threads_same src line (t ∷ ts) none =
 
 form_same : (src : Source) (line : ℕ) (f : Form) → is_out_of_range src line f ≡ false → ((k : ℕ) → is_wrong_kind src line k f ≡ false) → held_form f ≡ f
 form_same src line (Declare n t g) e none =
-    let s = shape_of (types_at src.types line) t in
+    let s = shape_at src.types line t in
     ap (Declare n t) (given_same s g (not-false (start_fits s g) e))
 form_same src line (Precedes ts) e none = ap Precedes (threads_same src line ts (λ k. none (suc k)))
 form_same src line (Follows ts) e none = ap Follows (threads_same src line ts (λ k. none (suc k)))

@@ -1,12 +1,13 @@
 -- What a text declares, with its numbers as they are held.
-use Rattle.std.proofs.Common.{◌≡◌, ℕ, Bool, true, false, ◌==◌, List, [], ◌∷◌, ◌++◌, map, filter_map, Option, Some, None, option_map, refl, ap, ◌∙◌}
+use Rattle.std.proofs.Common.{◌≡◌, ℕ, Bool, true, false, ◌==◌, List, [], ◌∷◌, map, filter_map, Some, None, option_map, refl, ap, ◌∙◌}
 use Rattle.std.specs.Prelude.{if◌then◌else◌}
 use Rattle.nxt_model.specs.Nbc.Forms.{Form, Include, Declare, OpenStruct, CloseStruct, Member, OpenThread, OpenSubroutine, CloseBlock}
-use Rattle.nxt_model.specs.Nbc.Types.{Struct, StructMember, with_member, types_from}
-use Rattle.nxt_model.specs.Nbc.Text.{Variable, Block, Source, include_line, header_at, types_of, variable_of, items_of, blocks_in, source_of}
+use Rattle.nxt_model.specs.Nbc.Types.{Struct, StructMember}
+use Rattle.nxt_model.specs.Nbc.Structs.{Types, no_types, with_header, with_member, with_struct, types_from, types_of}
+use Rattle.nxt_model.specs.Nbc.Text.{Variable, Block, NameSort, Source, variable_of, declared_name, items_of, blocks_in, source_of}
 use Rattle.nxt_model.specs.Nbc.NbcRules.{at_line}
 use Rattle.nxt_nbc_lines.specs.Held.{held_given, held_form}
-use Rattle.nxt_nbc_lines.proofs.Laws.HeldLists.{pick_same}
+use Rattle.nxt_nbc_lines.proofs.Laws.HeldLists.{pick_alike, pick_same}
 
 -- a form with its line
 abbrev pub held_at : ℕ × Form → ℕ × Form
@@ -26,23 +27,25 @@ held_source src = record src { vars = map held_variable src.vars; blocks = map h
 
 -- ---- types
 
-include_held : (fs : List (ℕ × Form)) → include_line (held_forms fs) ≡ include_line fs
-include_held [] = refl
-include_held ((l, Include) ∷ fs) = refl
-include_held ((l, f) ∷ fs) = include_held fs
-
-types_held : (types : List Struct) (name : List ℕ) (ms : List StructMember) (fs : List (ℕ × Form)) → types_from types name ms (held_forms fs) ≡ types_from types name ms fs
-types_held types name ms [] = refl
-types_held types name ms ((l, OpenStruct n) ∷ fs) = types_held types n [] fs
-types_held types name ms ((l, Member n t) ∷ fs) = types_held types name (with_member types ms l n t) fs
-types_held types name ms ((l, CloseStruct) ∷ fs) = types_held (types ++ record { name = name; members = ms; line = l } ∷ []) [] [] fs
-types_held types name ms ((l, f) ∷ fs) = types_held types name ms fs
+types_held : (t : Types) (name : List ℕ) (ms : List StructMember) (fs : List (ℕ × Form)) → types_from t name ms (held_forms fs) ≡ types_from t name ms fs
+types_held t name ms [] = refl
+types_held t name ms ((l, Include) ∷ fs) = types_held (with_header t l) name ms fs
+types_held t name ms ((l, OpenStruct n) ∷ fs) = types_held t n [] fs
+types_held t name ms ((l, Member n of) ∷ fs) = types_held t name (with_member t ms l n of) fs
+types_held t name ms ((l, CloseStruct) ∷ fs) = types_held (with_struct t name ms l) [] [] fs
+types_held t name ms ((l, f) ∷ fs) = types_held t name ms fs
 
 -- ---- variables
 
 variable_held : (types : List Struct) (x : ℕ × Form) → variable_of types (held_at x) ≡ option_map held_variable (variable_of types x)
 variable_held types (l, Declare n t g) = refl
 variable_held types (l, f) = refl
+
+-- ---- names
+
+name_held : (x : ℕ × Form) → declared_name (held_at x) ≡ declared_name x
+name_held (l, Declare n t g) = refl
+name_held (l, f) = refl
 
 -- ---- blocks
 
@@ -66,18 +69,18 @@ blocks_held ((l, f) ∷ fs) = blocks_held fs
 
 -- ---- the source
 
-abbrev sources : Option ℕ → List Struct → List Variable → List Block → Source
-sources included types vars blocks = record { included = included; types = types; vars = vars; blocks = blocks }
+abbrev sources : Types → List Variable → List Block → List (List ℕ × NameSort) → Source
+sources t vars blocks names = record { included = t.included; types = t.structs; vars = vars; blocks = blocks; names = names }
 
 pub source_held : (fs : List (ℕ × Form)) → source_of (held_forms fs) ≡ held_source (source_of fs)
 source_held fs =
     let gs = held_forms fs in
-    let same : types_of gs ≡ types_of fs =
-    ap (λ o. types_from (header_at o) [] [] gs) (include_held fs) ∙ types_held (header_at (include_line fs)) [] [] fs in
-    ap (λ i. sources i (types_of gs) (filter_map (variable_of (types_of gs)) gs) (blocks_in gs)) (include_held fs)
-    ∙ ap (λ t. sources (include_line fs) t (filter_map (variable_of t) gs) (blocks_in gs)) same
-    ∙ ap (λ v. sources (include_line fs) (types_of fs) v (blocks_in gs)) (pick_same held_at held_variable (variable_of (types_of fs)) (variable_of (types_of fs)) (variable_held (types_of fs)) fs)
-    ∙ ap (λ b. sources (include_line fs) (types_of fs) (map held_variable (filter_map (variable_of (types_of fs)) fs)) b) (blocks_held fs)
+    let types = types_of fs in
+    let declared = variable_of types.structs in
+    ap (λ t. sources t (filter_map (variable_of t.structs) gs) (blocks_in gs) (filter_map declared_name gs)) (types_held no_types [] [] fs)
+    ∙ ap (λ v. sources types v (blocks_in gs) (filter_map declared_name gs)) (pick_same held_at held_variable declared declared (variable_held types.structs) fs)
+    ∙ ap (λ b. sources types (map held_variable (filter_map declared fs)) b (filter_map declared_name gs)) (blocks_held fs)
+    ∙ ap (λ n. sources types (map held_variable (filter_map declared fs)) (map held_block (blocks_in fs)) n) (pick_alike held_at declared_name name_held fs)
 
 -- ---- the forms at a line
 

@@ -6,7 +6,7 @@ use Rattle.nxt_types.specs.Opcodes.{classes}
 use Rattle.nxt_types.specs.declared.opcodes.Class.{Class}
 use Rattle.nxt_types.specs.declared.opcodes.Class.TheVariants.{Offset}
 use Rattle.nxt_model.specs.Nbc.Forms.{Form, Declare, Precedes, Follows, ExitTo, Call, Do, Formed, Nothing, One, Many, Bytes, Term, Named}
-use Rattle.nxt_model.specs.Nbc.Types.{Struct, types_at}
+use Rattle.nxt_model.specs.Nbc.Types.{Struct}
 use Rattle.nxt_model.specs.Nbc.Text.{Source, source_of, denoted, LabelAt, labels_from}
 use Rattle.nxt_model.specs.Nbc.NbcRules.{at_line, has_large_type, has_wrong_text, is_at, is_bad_line, is_missing, lacks_label, is_unknown, any_missing, uses_unknown, uses_unknown_type, in_blocks}
 use Rattle.nxt_nbc_lines.specs.Held.{held_term, held_form, held_formed}
@@ -21,24 +21,24 @@ any_at_line line fs test other same = ap (list_any test) (line_held line fs) ∙
 
 -- ---- lines that have no form
 
-large_held : (types : List Struct) (f : Form) → has_large_type types (held_form f) ≡ has_large_type types f
-large_held types (Declare n t g) = refl
-large_held types f = refl
+large_held : (types : List Struct) (line : ℕ) (f : Form) → has_large_type types line (held_form f) ≡ has_large_type types line f
+large_held types line (Declare n t g) = refl
+large_held types line f = refl
 
-wrong_text_held : (types : List Struct) (f : Form) → has_wrong_text types (held_form f) ≡ has_wrong_text types f
-wrong_text_held types (Declare n t Nothing) = refl
-wrong_text_held types (Declare n t (One z)) = refl
-wrong_text_held types (Declare n t (Many zs)) = refl
-wrong_text_held types (Declare n t (Bytes s)) = refl
-wrong_text_held types f = refl
+wrong_text_held : (types : List Struct) (line : ℕ) (f : Form) → has_wrong_text types line (held_form f) ≡ has_wrong_text types line f
+wrong_text_held types line (Declare n t Nothing) = refl
+wrong_text_held types line (Declare n t (One z)) = refl
+wrong_text_held types line (Declare n t (Many zs)) = refl
+wrong_text_held types line (Declare n t (Bytes s)) = refl
+wrong_text_held types line f = refl
 
 abbrev is_bad_form : ℕ → Source → Form → Bool
-is_bad_form line src f = has_large_type (types_at src.types line) f || has_wrong_text (types_at src.types line) f
+is_bad_form line src f = has_large_type src.types line f || has_wrong_text src.types line f
 
 bad_form_held : (line : ℕ) (src : Source) (f : Form) → is_bad_form line src (held_form f) ≡ is_bad_form line src f
 bad_form_held line src f =
-    let types = types_at src.types line in
-    ap (λ c. c || has_wrong_text types (held_form f)) (large_held types f) ∙ ap (λ c. has_large_type types f || c) (wrong_text_held types f)
+    ap (λ c. c || has_wrong_text src.types line (held_form f)) (large_held src.types line f)
+    ∙ ap (λ c. has_large_type src.types line f || c) (wrong_text_held src.types line f)
 
 pub bad_line_held : (fd : Formed) (line : ℕ) → is_bad_line (held_formed fd) line ≡ is_bad_line fd line
 bad_line_held fd line =

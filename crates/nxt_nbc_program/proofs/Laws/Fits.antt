@@ -1,15 +1,19 @@
 -- What a text counts fits in the fields of a program.
-use Rattle.std.proofs.Common.{◌≡◌, ℕ, zero, suc, ◌+◌, ◌^◌, ◌<◌, ◌≤◌, ◌==◌, Bool, true, false, cond, List, [], ◌∷◌, ◌++◌, length, map, find, position, bytes_eq, get_or, Option, Some, None, option_map, refl, sym, ap, subst, arith, length-append}
+use Rattle.std.proofs.Common.{◌≡◌, ℕ, zero, suc, ◌+◌, ◌^◌, ◌<◌, ◌≤◌, ◌==◌, Bool, true, false, cond, List, [], ◌∷◌, ◌++◌, length, map, find, position, bytes_eq, get_or, Option, Some, None, option_map, refl, sym, ap, subst, arith, rules, length-append}
 use Rattle.std.specs.Prelude.{⊤, if◌then◌else◌, filter_map, option_and_then, slice_get, unwrap_or}
 use Rattle.std.specs.List.{cons_option}
+use Rattle.std.proofs.lemmas.List.{length-map}
 use Rattle.std.proofs.lemmas.Option.{slice_get_within}
 use Rattle.nxt_model.specs.Nbc.Forms as forms
-use Rattle.nxt_model.specs.Nbc.Forms.{Form, Term, Named, Literal, Quote, TypeName}
-use Rattle.nxt_model.specs.Nbc.Header.{at_line, header_lines}
-use Rattle.nxt_model.specs.Nbc.Types.{Struct, StructMember, shape_of, struct_named, types_at, types_from, with_member, member_path, Found, below}
-use Rattle.nxt_model.specs.Nbc.Text.{Source, Variable, Block, Denoted, AVariable, ABlock, LabelAt, label_at, label_of, labels_from, label_named, is_statement, variable_of, header_at, include_line, types_of, blocks_in, source_of, variable_named, block_named, block_at, number_named, member_of, path_in, other_name, is_struct_at, by_variable, denoted}
+use Rattle.nxt_model.specs.Nbc.Forms.{Form, Term, Named, Literal, Quote}
+use Rattle.nxt_model.specs.Nbc.Header.{constant_named, header_at, header_structs, is_header_struct, member_behind, struct_behind}
+use Rattle.nxt_model.specs.Nbc.Structs.{Types, add_header, no_types, types_from, types_of, with_header, with_member, with_struct}
+use Rattle.nxt_model.specs.declared.nbc.NbcBase.{NbcBase}
+use Rattle.nxt_model.specs.declared.nbc.NbcBase.TheVariants as bases
+use Rattle.nxt_model.specs.declared.nbc.NbcType.{NbcType}
+use Rattle.nxt_model.specs.Nbc.Types.{Struct, StructMember, type_at, struct_of_base, struct_of, member_in, member_of_type, member_path, Found, below}
+use Rattle.nxt_model.specs.Nbc.Text.{Source, Variable, Block, NameSort, OfVariable, OfStruct, OfBlock, Denoted, AVariable, ABlock, AType, Missing, LabelAt, label_at, label_of, labels_from, label_named, is_statement, variable_of, blocks_in, source_of, sort_named, variable_named, block_named, block_at, block_place, block_by, a_block, a_variable, alone, of_header, predefined, is_included_at, member_of, path_in, by_sort, denoted}
 use Rattle.nxt_nbc_lines.specs.Whole.{most_in_text, AreLines}
-use Rattle.nxt_nbc_names.specs.Structs.{Types}
 use Rattle.nxt_nbc_names.specs.DenotedSeen.{denoted_seen}
 use Rattle.nxt_nbc_names.specs.declared.denoted.Denoted.{Denoted as ProgramDenoted}
 use Rattle.nxt_nbc_names.specs.declared.denoted.Denoted.TheVariants as program
@@ -23,28 +27,29 @@ few_append : (a b : List Struct) → HaveFewMembers a → HaveFewMembers b → H
 few_append [] b h k = k
 few_append (s ∷ a) b h k = (h.0, few_append a b h.1 k)
 
-one_member : (types : List Struct) (ms : List StructMember) (line : ℕ) (name : List ℕ) (t : TypeName) → length (with_member types ms line name t) ≡ length ms + 1
-one_member types ms line name t = length-append ms (record { name = name; type = t; shape = shape_of (types_at types line) t; line = line } ∷ [])
+few_behind : (first line : ℕ) (ss : List Struct) → HaveFewMembers ss → HaveFewMembers (map (struct_behind first line) ss)
+few_behind first line [] h = tt
+few_behind first line (s ∷ ss) h = (omega (arith, length-map s.members (member_behind first), h.0), few_behind first line ss h.1)
 
-few_from : (types : List Struct) (name : List ℕ) (ms : List StructMember) (fs : List (ℕ × Form)) → HaveFewMembers types → length ms + length fs ≤ most_in_text
-    → HaveFewMembers (types_from types name ms fs)
-few_from types name ms [] h le = h
-few_from types name ms ((l, forms.OpenStruct n) ∷ fs) h le = few_from types n [] fs h (omega (arith, le))
-few_from types name ms ((l, forms.Member n t) ∷ fs) h le =
-    let one = one_member types ms l n t in
-    few_from types name (with_member types ms l n t) fs h (omega (arith, le, one))
-few_from types name ms ((l, forms.CloseStruct) ∷ fs) h le =
-    few_from (types ++ record { name = name; members = ms; line = l } ∷ []) [] [] fs
-    (few_append types (record { name = name; members = ms; line = l } ∷ []) h (omega (arith, le), tt)) (omega (arith, le))
-few_from types name ms (f ∷ fs) h le = few_from types name ms fs h (omega (arith, le))
+few_in_header : HaveFewMembers header_structs
+few_in_header = search rules
 
-few_at : (line : ℕ) (ss : List Struct) → HaveFewMembers ss → HaveFewMembers (map (at_line line) ss)
-few_at line [] h = tt
-few_at line (s ∷ ss) h = (h.0, few_at line ss h.1)
+few_added : (o : Option ℕ) (t : Types) (line : ℕ) → HaveFewMembers t.structs → HaveFewMembers (add_header o t line).structs
+few_added None t line h = few_append t.structs (header_at (length t.structs) line) h (few_behind (length t.structs) line header_structs few_in_header)
+few_added (Some first) t line h = h
 
-few_in_header : (o : Option ℕ) → HaveFewMembers (header_at o)
-few_in_header None = tt
-few_in_header (Some line) = few_at line (types_from [] [] [] header_lines) (few_from [] [] [] header_lines tt (omega arith))
+few_from : (t : Types) (name : List ℕ) (ms : List StructMember) (fs : List (ℕ × Form)) → HaveFewMembers t.structs → length ms + length fs ≤ most_in_text
+    → HaveFewMembers (types_from t name ms fs).structs
+few_from t name ms [] h le = h
+few_from t name ms ((l, forms.Include) ∷ fs) h le = few_from (with_header t l) name ms fs (few_added t.included t l h) (omega (arith, le))
+few_from t name ms ((l, forms.OpenStruct n) ∷ fs) h le = few_from t n [] fs h (omega (arith, le))
+few_from t name ms ((l, forms.Member n of) ∷ fs) h le =
+    let one = length-append ms (record { name = n; type = type_at t.structs l of } ∷ []) in
+    few_from t name (with_member t ms l n of) fs h (omega (arith, le, one))
+few_from t name ms ((l, forms.CloseStruct) ∷ fs) h le =
+    few_from (with_struct t name ms l) [] [] fs
+    (few_append t.structs (record { name = name; members = ms; line = l } ∷ []) h (omega (arith, le), tt)) (omega (arith, le))
+few_from t name ms (f ∷ fs) h le = few_from t name ms fs h (omega (arith, le))
 
 -- ---- texts
 
@@ -58,8 +63,8 @@ few_variables types (f ∷ fs) = by (variable_of types f) (few_variables types f
 
 pub source_fits : (fs : List (ℕ × Form)) → AreLines fs → length (blocks_in fs) ≤ 255 → SourceFits (source_of fs)
 source_fits fs lines blocks = record {
-  types = few_from (header_at (include_line fs)) [] [] fs (few_in_header (include_line fs)) (omega (arith, lines.few));
-  vars = omega (arith, few_variables (types_of fs) fs, lines.few);
+  types = few_from no_types [] [] fs tt (omega (arith, lines.few));
+  vars = omega (arith, few_variables (types_of fs).structs fs, lines.few);
   blocks = blocks;
 }
 
@@ -111,16 +116,39 @@ abbrev IsFew : Option Struct → Type 0
 IsFew None = ⊤
 IsFew (Some s) = length s.members ≤ most_in_text
 
-few_by : (t : Struct) (o : Option Struct) (c : Bool) → length t.members ≤ most_in_text → IsFew o → IsFew (cond c (Some t) o)
-few_by t o true here more = here
-few_by t o false here more = more
+few_at : (types : List Struct) (i : ℕ) → HaveFewMembers types → IsFew (slice_get types i)
+few_at [] i h = tt
+few_at (s ∷ types) zero h = h.0
+few_at (s ∷ types) (suc i) h = few_at types i h.1
 
-few_found : (types : List Struct) (name : List ℕ) → HaveFewMembers types → IsFew (struct_named types name)
-few_found [] name h = tt
-few_found (t ∷ types) name h = few_by t (struct_named types name) (bytes_eq t.name name) h.0 (few_found types name h.1)
+few_of_base : (types : List Struct) (b : NbcBase) → HaveFewMembers types → IsFew (struct_of_base types b)
+few_of_base types (bases.Number k) h = tt
+few_of_base types bases.Mutex h = tt
+few_of_base types (bases.Struct i) h = few_at types i h
 
-few_named : (types : List Struct) (name : List ℕ) (s : Struct) → HaveFewMembers types → struct_named types name ≡ Some s → length s.members ≤ most_in_text
-few_named types name s h e = subst IsFew e (few_found types name h)
+few_of : (types : List Struct) (t : NbcType) → HaveFewMembers types → IsFew (struct_of types t)
+few_of types t h = by (t.arrays == 0)
+  where
+    by : (c : Bool) → IsFew (if c then struct_of_base types t.base else None)
+    by true = few_of_base types t.base h
+    by false = tt
+
+-- a member's position
+abbrev IsNear : Option (ℕ × NbcType) → Type 0
+IsNear None = ⊤
+IsNear (Some m) = m.0 < 2 ^ 63
+
+member_near : (name : List ℕ) (o : Option Struct) → IsFew o → IsNear (option_and_then (member_in name) o)
+member_near name None few = tt
+member_near name (Some s) few = at (position (λ m. bytes_eq m.name name) s.members)
+  where
+    there : (k : ℕ) (o : Option StructMember) → slice_get s.members k ≡ o → IsNear (option_map (λ m. (k, m.type)) o)
+    there k None e = tt
+    there k (Some m) e = let within = slice_get_within s.members k m e in omega (arith, within, few)
+
+    at : (o : Option ℕ) → IsNear (option_and_then (λ k. option_map (λ m. (k, m.type)) (slice_get s.members k)) o)
+    at None = tt
+    at (Some k) = there k (slice_get s.members k) refl
 
 abbrev PathFits : Option Found → Type 0
 PathFits None = ⊤
@@ -134,23 +162,11 @@ below_fits : (k : ℕ) (o : Option Found) → k < 2 ^ 63 → PathFits o → Path
 below_fits k None lt h = tt
 below_fits k (Some f) lt h = (lt, h)
 
-plain_fits : (c : Bool) (o : Option Found) → PathFits o → PathFits (if c then o else None)
-plain_fits true o h = h
-plain_fits false o h = tt
-
-path_fits : (types : List Struct) → HaveFewMembers types → (t : TypeName) (ns : List (List ℕ)) → PathFits (member_path types t ns)
+path_fits : (types : List Struct) → HaveFewMembers types → (t : NbcType) (ns : List (List ℕ)) → PathFits (member_path types t ns)
 path_fits types few t [] = tt
 path_fits types few t (n ∷ ns) =
-    let at : Struct → Option ℕ = λ s. position (λ m. bytes_eq m.name n) s.members in
-    let step : Struct → ℕ → Option Found = λ s k. option_and_then (λ m. option_map (below k) (member_path types m.type ns)) (slice_get s.members k) in
-    plain_fits (t.arrays == 0) (option_and_then (λ s. option_and_then (step s) (at s)) (struct_named types t.name))
-    (then_fits (λ s. option_and_then (step s) (at s)) (struct_named types t.name)
-    (λ s is. then_fits (step s) (at s)
-    (λ k found. then_fits (λ m. option_map (below k) (member_path types m.type ns)) (slice_get s.members k)
-    (λ m there.
-    let within : k < length s.members = slice_get_within s.members k m there in
-    let most = few_named types t.name s few is in
-    below_fits k (member_path types m.type ns) (omega (arith, within, most)) (path_fits types few m.type ns)))))
+    then_fits (λ m. option_map (below m.0) (member_path types m.1 ns)) (member_of_type types t n)
+    (λ m is. below_fits m.0 (member_path types m.1 ns) (subst IsNear is (member_near n (struct_of types t) (few_of types t few))) (path_fits types few m.1 ns))
 
 module _ (src : Source) (fits : SourceFits src) where
   member_fits : (i : ℕ) (o : Option Found) → i < 2 ^ 32 → PathFits o → DenotedFits (member_of src i o)
@@ -164,30 +180,49 @@ module _ (src : Source) (fits : SourceFits src) where
       let most = fits.vars in
       member_fits i (member_path src.types v.type ns) (omega (arith, within, most)) (path_fits src.types fits.types v.type ns)
 
-  other_fits : (n : Option ℕ) (b : Option Block) (k : Option ℕ) (t : Bool) (ns : List (List ℕ)) → ((j : ℕ) → k ≡ Some j → j < 2 ^ 8) → DenotedFits (other_name n b k t ns)
-  other_fits n b k t (m ∷ ms) h = tt
-  other_fits (Some n) b k t [] h = tt
-  other_fits None (Some b) (Some k) t [] h = h k refl
-  other_fits None (Some b) None true [] h = tt
-  other_fits None (Some b) None false [] h = tt
-  other_fits None None k true [] h = tt
-  other_fits None None k false [] h = tt
+  variable_fits : (o : Option ℕ) (ns : List (List ℕ)) → DenotedFits (a_variable src o ns)
+  variable_fits None ns = tt
+  variable_fits (Some i) ns = part_fits i ns (slice_get src.vars i) refl
+
+  alone_fits : (ns : List (List ℕ)) (d : Denoted) → DenotedFits d → DenotedFits (alone ns d)
+  alone_fits [] d h = h
+  alone_fits (n ∷ ns) d h = tt
 
   number_fits : (name : List ℕ) (j : ℕ) → block_named src name ≡ Some j → j < 2 ^ 8
   number_fits name j e =
       number_below src.blocks name (block_named src name) j fits.blocks (ap (position (λ b. bytes_eq b.name name)) (ordered_is src)) e
 
-  named_fits : (line : ℕ) (o : Option ℕ) (name : List ℕ) (ns : List (List ℕ)) → DenotedFits (by_variable src line o name ns)
-  named_fits line (Some i) name ns = part_fits i ns (slice_get src.vars i) refl
-  named_fits line None name ns =
-      let k = block_named src name in
-      other_fits (number_named src line name) (option_and_then (block_at src) k) k (is_struct_at src line name) ns (number_fits name)
+  block_fits : (name : List ℕ) → DenotedFits (a_block (block_by src name))
+  block_fits name = by (block_named src name) (number_fits name)
+    where
+      there : (k : ℕ) (o : Option Block) → k < 2 ^ 8 → DenotedFits (a_block (option_map (block_place k) o))
+      there k None lt = tt
+      there k (Some b) lt = lt
+
+      by : (o : Option ℕ) → ((j : ℕ) → o ≡ Some j → j < 2 ^ 8) → DenotedFits (a_block (option_and_then (λ k. option_map (block_place k) (block_at src k)) o))
+      by None h = tt
+      by (Some k) h = there k (block_at src k) (h k refl)
+
+  predefined_fits : (line : ℕ) (name : List ℕ) → DenotedFits (predefined src line name)
+  predefined_fits line name = by (is_included_at src line) (constant_named name) (is_header_struct name)
+    where
+      by : (c : Bool) (o : Option ℕ) (t : Bool) → DenotedFits (if c then of_header o t else Missing)
+      by true (Some n) t = tt
+      by true None true = tt
+      by true None false = tt
+      by false o t = tt
+
+  named_fits : (line : ℕ) (o : Option NameSort) (name : List ℕ) (ns : List (List ℕ)) → DenotedFits (by_sort src line o name ns)
+  named_fits line (Some OfVariable) name ns = variable_fits (variable_named src name) ns
+  named_fits line (Some OfStruct) name ns = alone_fits ns AType tt
+  named_fits line (Some OfBlock) name ns = alone_fits ns (a_block (block_by src name)) (block_fits name)
+  named_fits line None name ns = alone_fits ns (predefined src line name) (predefined_fits line name)
 
   term_fits : (line : ℕ) (t : Term) → DenotedFits (denoted src line t)
   term_fits line (Literal z) = tt
   term_fits line (Quote s) = tt
   term_fits line (Named []) = tt
-  term_fits line (Named (n ∷ ns)) = named_fits line (variable_named src n) n ns
+  term_fits line (Named (n ∷ ns)) = named_fits line (sort_named src n) n ns
 
 seen_fits : (t : Types) (d : ProgramDenoted) → DenotedFits (denoted_seen t d) → IsDenoted d
 seen_fits t (program.Part p) h = h

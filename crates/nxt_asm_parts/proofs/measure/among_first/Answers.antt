@@ -1,7 +1,6 @@
 use Rattle.std.proofs.Common.{take, sym, ap, ◌∙◌}
 use Rattle.nxt_model.specs.Assembled.{entries_before}
-use Rattle.nxt_model.specs.Nbc.Types.{arrays_of}
-use Rattle.nxt_model.specs.TextProgram.{base_shape}
+use Rattle.nxt_model.specs.TextProgram.{arrays_of, base_shape}
 use Rattle.nxt_asm_parts.proofs.Steps.{past_first}
 use Rattle.nxt_asm_parts.proofs.measure.among_first.Goals as goal
 

@@ -1,7 +1,10 @@
-use Rattle.std.proofs.Common.{Ok, map, sym, ap, subst, ◌∙◌}
+use Rattle.std.proofs.Common.{◌≡◌, Result, Ok, Err, map, sym, ap, subst, ◌∙◌}
+use Rattle.std.specs.Result.{IfErr, IsErrAnd}
 use Rattle.nxt_model.specs.Nbc.Forms.{Formed}
 use Rattle.nxt_model.specs.Nbc.Text.{Source, program_of, source_of}
 use Rattle.nxt_nbc_lines.specs.Firsts.{Ascends, HasForms}
+use Rattle.nxt_nbc_lines.specs.declared.fault.NbcFault.{NbcFault}
+use Rattle.nxt_nbc_lines.specs.declared.fault.NbcFault.TheVariants.{NoMemory}
 use Rattle.nxt_nbc_lines.specs.Seen.{formed_seen, line_form_seen}
 use Rattle.nxt_nbc_lines.specs.Whole.{BlocksAreWhole}
 use Rattle.nxt_nbc_lines.proofs.Laws.Refused.{accepted}
@@ -9,6 +12,7 @@ use Rattle.nxt_nbc_lines.proofs.Laws.Ascending.{has_ascending}
 use Rattle.nxt_nbc_lines.proofs.Laws.Whole.{blocks_whole, has_lines}
 use Rattle.nxt_nbc_program.specs.Fits.{SourceFits}
 use Rattle.nxt_nbc_program.proofs.Laws.Fits.{source_fits}
+use Rattle.nxt_nbc.specs.Faults.{IsRefused}
 use Rattle.nxt_nbc.proofs.CountsTold.{few_blocks}
 use Rattle.nxt_nbc.proofs.text.parse.Goals as goal
 
@@ -58,3 +62,23 @@ returns-clause-parsed c =
       accepted = all.0;
       tokens = (ts, has.0, c.in_ok-program_of.ensures ∙ ap program_of same ∙ ap (λ (f : Formed). program_of (source_of f.forms)) all.1);
     }
+
+-- an error that a fault gives
+from_error : {T : Type 0} (r : Result T NbcFault) (G P : NbcFault → Type 0) → IsErrAnd r G → ((f : NbcFault) → G f → P f) → IfErr r P
+from_error (Ok x) G P h given = tt
+from_error (Err f) G P h given = given f h
+
+pub returns-in_err-check_rules-clause-refused : goal.returns-in_err-check_rules-clause-refused
+returns-in_err-check_rules-clause-refused c =
+    let text = c.args.text.now in
+    let ts = c.as_slice.result.now in
+    let fd = formed_seen c.in_ok-formed.formed in
+    let has : HasForms text ts fd = (c.in_ok-tokens.ensures.tokens ∙ ap Ok (sym c.as_slice.ensures), c.in_ok-formed.ensures) in
+    let refused = c.in_err-check_rules.ensures.refused text ts has in
+    from_error c.from_residual-in_err-check_rules.result (λ f. f ≡ c.in_err-check_rules.field-0.0) (IsRefused text) c.from_residual-in_err-check_rules.ensures.1
+    (λ f e. subst (IsRefused text) (sym e) refused)
+
+pub returns-in_err-program_of-clause-refused : goal.returns-in_err-program_of-clause-refused
+returns-in_err-program_of-clause-refused c =
+    from_error c.from_residual-in_err-program_of.result (λ f. f ≡ NoMemory) (IsRefused c.args.text.now) c.from_residual-in_err-program_of.ensures.1
+    (λ f e. subst (IsRefused c.args.text.now) (sym e) tt)

@@ -1,7 +1,7 @@
 use Rattle.std.proofs.Common.{◌≡◌, drop}
 use Rattle.std.specs.List.{list_all}
 use Rattle.nxt_model.specs.Nbc.NbcRules.{fits_shape}
-use Rattle.nxt_nbc_names.specs.Structs.{Types}
+use Rattle.nxt_model.specs.Nbc.Structs.{Types}
 use Rattle.nxt_nbc_kinds.specs.OperandsSeen.{shape_seen}
 use Rattle.nxt_nbc_kinds.proofs.ranges.all_fit.Given as goal
 

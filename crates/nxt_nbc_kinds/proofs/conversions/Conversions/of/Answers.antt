@@ -1,6 +1,6 @@
 use Rattle.std.proofs.Common.{ap, subst, ◌∙◌}
 use Rattle.std.proofs.lemmas.List.{take_all}
-use Rattle.nxt_nbc_names.specs.Structs.{shapes_of}
+use Rattle.nxt_model.specs.Nbc.Types.{type_shapes}
 use Rattle.nxt_nbc_names.specs.StructsSeen.{structs_seen}
 use Rattle.nxt_nbc_kinds.proofs.KnownKinds.{AreKnown, are_kinship, known_more}
 use Rattle.nxt_nbc_kinds.proofs.conversions.Conversions.of.Goals as goal
@@ -17,4 +17,4 @@ returns c =
     let xs = c.as_slice-declared.result.now in
     let whole = take_all c.loop-item.item-index xs c.loop-item-test.false in
     are_kinship c.args.structs.now c.loop-item.kinds c.loop-item.known
-    (subst (λ ds. AreKnown (shapes_of ds) c.loop-item.kinds c.loop-item.known) (ap structs_seen whole ∙ c.as_slice-declared.ensures) c.loop-item.invariant)
+    (subst (λ ds. AreKnown (type_shapes ds) c.loop-item.kinds c.loop-item.known) (ap structs_seen whole ∙ c.as_slice-declared.ensures) c.loop-item.invariant)

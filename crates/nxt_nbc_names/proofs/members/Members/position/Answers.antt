@@ -1,5 +1,5 @@
 use Rattle.std.proofs.Common.{◌∙◌, ap, bytes_eq, map, position}
-use Rattle.nxt_nbc_names.specs.Structs.{DeclaredMember}
+use Rattle.nxt_model.specs.Nbc.Types.{StructMember}
 use Rattle.nxt_nbc_names.specs.MembersSeen.{member_seen}
 use Rattle.nxt_nbc_names.proofs.Positions.{position_map}
 use Rattle.nxt_nbc_names.proofs.members.Members.position.Goals as goal
@@ -8,5 +8,5 @@ pub returns : goal.returns
 returns c =
     c.position.ensures
     ∙ ap (position (λ n. bytes_eq n c.args.name.now)) c.self.invariant
-    ∙ position_map (λ (m : DeclaredMember). m.name) (λ n. bytes_eq n c.args.name.now) (map member_seen c.self.inside.items.items)
+    ∙ position_map (λ (m : StructMember). m.name) (λ n. bytes_eq n c.args.name.now) (map member_seen c.self.inside.items.items)
     ∙ ap (position (λ m. bytes_eq m.name c.args.name.now)) c.self.view_is

@@ -1,7 +1,7 @@
-use Rattle.std.proofs.Common.{◌<◌, length, option_map, sym, ap, ◌∙◌, arith}
+use Rattle.std.proofs.Common.{◌<◌, length, sym, ap, ◌∙◌, arith}
 use Rattle.std.proofs.lemmas.Bool.Decides.{nat_tests}
-use Rattle.nxt_model.specs.Nbc.Text.{AVariable, member_of, path_in}
-use Rattle.nxt_nbc_lines.specs.Seen.{names_seen, type_seen}
+use Rattle.nxt_model.specs.Nbc.Text.{member_of, path_in}
+use Rattle.nxt_nbc_lines.specs.Seen.{names_seen}
 use Rattle.nxt_nbc_names.specs.SourceSeen.{source_seen}
 use Rattle.nxt_nbc_names.proofs.NamesDenoted.{variable_at}
 use Rattle.nxt_nbc_names.proofs.source.Source.part.Goals as goal
@@ -12,12 +12,10 @@ returns-in-Some-2 c =
     let told = c.in-Some.ensures.lookup in
     let inside = told.0 in
     let under : c.args.variable < length c.as_slice.result.now = grind (arith, nat_tests) in
-    ap (AVariable c.args.variable c.in-Some-2.path) c.first_shape.ensures
-    ∙ ap (λ o. member_of (source_seen s) c.args.variable (option_map (λ p. (p.0, type_seen p.1)) o)) (sym c.in-Some-2.is)
-    ∙ ap (member_of (source_seen s) c.args.variable) c.in_ok-path.ensures
+    ap (member_of (source_seen s) c.args.variable) (sym c.in-Some-2.is ∙ c.in_ok-path.ensures)
     ∙ sym
     (ap (path_in (source_seen s) c.args.variable (names_seen c.args.members.now))
-    (variable_at s.structs s.variables c.as_slice.result.now c.args.variable c.in-Some.declared.now c.as_slice.ensures under told.1))
+    (variable_at s.variables c.as_slice.result.now c.args.variable c.in-Some.declared.now c.as_slice.ensures under told.1))
 
 pub returns-in-None : goal.returns-in-None
 returns-in-None c =
@@ -25,8 +23,7 @@ returns-in-None c =
     let told = c.in-Some.ensures.lookup in
     let inside = told.0 in
     let under : c.args.variable < length c.as_slice.result.now = grind (arith, nat_tests) in
-    ap (λ o. member_of (source_seen s) c.args.variable (option_map (λ p. (p.0, type_seen p.1)) o)) (sym c.in-None.is)
-    ∙ ap (member_of (source_seen s) c.args.variable) c.in_ok-path.ensures
+    ap (member_of (source_seen s) c.args.variable) (sym c.in-None.is ∙ c.in_ok-path.ensures)
     ∙ sym
     (ap (path_in (source_seen s) c.args.variable (names_seen c.args.members.now))
-    (variable_at s.structs s.variables c.as_slice.result.now c.args.variable c.in-Some.declared.now c.as_slice.ensures under told.1))
+    (variable_at s.variables c.as_slice.result.now c.args.variable c.in-Some.declared.now c.as_slice.ensures under told.1))

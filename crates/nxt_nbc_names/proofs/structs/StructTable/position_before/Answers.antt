@@ -1,10 +1,23 @@
-use Rattle.nxt_nbc_names.specs.Structs.{is_before}
-use Rattle.nxt_nbc_names.proofs.StructTables.{place_in_front, place_behind}
+use Rattle.std.proofs.Common.{◌≡◌, true, false, nat_lt, ap, ◌∙◌, arith}
+use Rattle.std.proofs.lemmas.Bool.Decides.{nat_tests}
+use Rattle.nxt_model.specs.Nbc.Structs.{Types}
+use Rattle.nxt_nbc_names.proofs.StructTables.{before_none, before_first}
 use Rattle.nxt_nbc_names.proofs.structs.StructTable.position_before.Goals as goal
 
-pub returns-in-Some : goal.returns-in-Some
-returns-in-Some c = place_in_front (is_before c.args.line c.args.name.now) c.args.self.now c.in-Some.position c.in-Some.ensures
+pub returns-in_err-position : goal.returns-in_err-position
+returns-in_err-position c =
+    c.from_residual.ensures
+    ∙ before_none c.self.inside.structs.items c.self.inside.names c.args.self.now.structs c.self.invariant (ap (λ (t : Types). t.structs) c.self.view_is) c.args.name.now c.args.line
+    c.in_err-position.ensures
 
-pub returns-in-None : goal.returns-in-None
-returns-in-None c =
-    place_behind (is_before c.args.line c.args.name.now) c.args.self.now c.own_position_before.result c.in-None.ensures c.own_position_before.ensures
+pub returns-then-index-line : goal.returns-then-index-line
+returns-then-index-line c =
+    let test : nat_lt c.index.result.now.line c.args.line ≡ true = grind (arith, nat_tests) in
+    before_first c.self.inside.structs.items c.self.inside.names c.args.self.now.structs c.self.invariant (ap (λ (t : Types). t.structs) c.self.view_is) c.args.name.now c.args.line
+    c.in_ok-position.position c.index.result.now true c.in_ok-position.ensures c.index.ensures test
+
+pub returns-else-index-line : goal.returns-else-index-line
+returns-else-index-line c =
+    let test : nat_lt c.index.result.now.line c.args.line ≡ false = grind (arith, nat_tests) in
+    before_first c.self.inside.structs.items c.self.inside.names c.args.self.now.structs c.self.invariant (ap (λ (t : Types). t.structs) c.self.view_is) c.args.name.now c.args.line
+    c.in_ok-position.position c.index.result.now false c.in_ok-position.ensures c.index.ensures test
